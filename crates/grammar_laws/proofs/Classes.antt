@@ -1,6 +1,7 @@
 -- Classes and their members produce what they are read of.
 use Rattle.std.proofs.Common.{◌≡◌, ℕ, ◌⊎◌, inl, inr, Bool, true, false, not, ◌&&◌, ◌||◌, cond, eqb, List, [], ◌∷◌, ◌++◌, Option, Some, None, refl, sym, ap, ◌∙◌, subst, ⊎_elim, true≢false, arith}
 use Rattle.std.proofs.lemmas.Bool.{eqb-true, and_parts, not-true}
+use Rattle.base_proofs.proofs.Bools.{and_false}
 use Rattle.base_token.specs.declared.place.Span.{Span}
 use Rattle.base_token.specs.Kinds.{left_paren_kind, right_paren_kind, left_brace_kind, right_brace_kind, semicolon_kind, hash_kind, mul_kind, assign_kind, extends_kind, async_kind, static_kind, accessor_kind, get_kind, set_kind}
 use Rattle.tree_spec.specs.Tree.{Tree, none, more, pack, plain_method, absent, block_stmt, empty_stmt, function, class, class_method, private_method, class_prop, private_prop, static_block, auto_accessor}
@@ -17,7 +18,7 @@ use Rattle.grammar_laws.proofs.Sure.{lm, seen, next, Sure, done, then_sure, sure
 use Rattle.grammar_laws.proofs.Covers.{plain, by_no, not_absent}
 use Rattle.grammar_laws.proofs.Nested.{Sound, GotClass, body_is, key_sure, private_sure, end_sure}
 use Rattle.grammar_laws.proofs.Functions.{Before, All_read, at_start, one_more, at_end, function_sure, setter_sure, star_sure}
-use Rattle.grammar_laws.proofs.Primaries.{and_no, soft}
+use Rattle.grammar_laws.proofs.Primaries.{soft}
 use Rattle.grammar_laws.proofs.Lists.{block_rest_sure, list_is}
 use Rattle.grammar_laws.proofs.Simple.{ended}
 
@@ -116,13 +117,13 @@ module _ (inner : Inner Input) (good : Sound inner) where
         inl (refl, refl),
         refl,
         refl,
-        (e, soft c get_kind s e and_no, tt, refl),
+        (e, soft c get_kind s e and_false, tt, refl),
         q.1,
         body_is (plain (in_body false false c)) (seen (next (next k.1))) (seen b.1) (λ z. Produces (function p none none z false false) (setting false (plain c)) (seen k.1) (seen b.1)) (λ y ss j. (seen (next (next k.1)), tt, (seen (next k.1), (o, tt, refl), (u, tt, refl)), j)) b.0 w,
       ) refl refl)))))
     where
       not_plain : (k : Tree) (st : Bool) → (constructs k && (not st && false)) ≡ false
-      not_plain k st = ap (λ z. constructs k && z) (and_no (not st)) ∙ and_no (constructs k)
+      not_plain k st = ap (λ z. constructs k && z) (and_false (not st)) ∙ and_false (constructs k)
 
   setter_member_sure : (c : Code) (start : State Input) (st : Bool) (s : State Input) → Static st (plain c) (seen start) (seen s) → kind (seen s) ≡ set_kind → Sure s.commas (class_setter lm inner c start st s) (GotMember c start)
   unfolding class_setter
@@ -135,18 +136,18 @@ module _ (inner : Inner Input) (good : Sound inner) where
         inr refl,
         refl,
         refl,
-        (e, soft c set_kind s e and_no, tt, refl),
+        (e, soft c set_kind s e and_false, tt, refl),
         q.1,
         body_is (plain (in_body false false c)) (seen x.1) (seen b.1) (λ z. Produces (function p (more x.0 none) none z false false) (setting true (plain c)) (seen k.1) (seen b.1)) (λ y ss j. (seen x.1, tt, (h.0, h.1, tt, h.3, h.4, (h.2, h.5), h.6), j)) b.0 w,
       ) refl refl))))
     where
       not_plain : (k : Tree) (st : Bool) → (constructs k && (not st && false)) ≡ false
-      not_plain k st = ap (λ z. constructs k && z) (and_no (not st)) ∙ and_no (constructs k)
+      not_plain k st = ap (λ z. constructs k && z) (and_false (not st)) ∙ and_false (constructs k)
 
   accessor_sure : (c : Code) (start : State Input) (st : Bool) (s : State Input) → Static st (plain c) (seen start) (seen s) → c.syntax.auto_accessors ≡ true → kind (seen s) ≡ accessor_kind → brk (seen (next s)) ≡ false → Sure s.commas (accessor_by lm inner c start st s) (GotMember c start)
   unfolding accessor_by
   accessor_sure c start st s t on e n = then_sure s.commas (class_key lm inner c (next s)) _ _ _ (class_key_sure c (next s)) (λ k q. then_sure k.1.commas (field_value lm inner c key_end k.1) _ _ _ (value_sure c key_end k.1) (λ v h.
-      done (auto_accessor (span (lo (seen start)) v.1.source.last) k.0 v.0 st none, v.1) (GotMember c start) (refl, (seen s, seen (next s), seen k.1, on, tt, t, (e, soft c accessor_kind s e and_no, tt, refl), n, (any_key k.0 q.0, q.1), h, refl))))
+      done (auto_accessor (span (lo (seen start)) v.1.source.last) k.0 v.0 st none, v.1) (GotMember c start) (refl, (seen s, seen (next s), seen k.1, on, tt, t, (e, soft c accessor_kind s e and_false, tt, refl), n, (any_key k.0 q.0, q.1), h, refl))))
 
   field_sure : (c : Code) (start : State Input) (st : Bool) (s : State Input) → Static st (plain c) (seen start) (seen s) → Sure s.commas (field_or_method lm inner c start st s) (GotMember c start)
   unfolding field_or_method
@@ -166,7 +167,7 @@ module _ (inner : Inner Input) (good : Sound inner) where
   member_rest_sure c start st s t = test_sure s.commas (kind (seen s)) mul_kind _ _ _ (λ _. generator_sure c start st false (seen s) s t refl) (λ _.
       if_sure s.commas (is_async_head lm inner s) _ _ _ (λ z. let b = and_parts (eqb (kind (seen s)) async_kind) ((starts_key (kind2 (seen s)) || eqb (kind2 (seen s)) mul_kind) && not (brk2 (seen s))) z in
       let e = eqb-true (kind (seen s)) async_kind b.0 in let d = and_parts (starts_key (kind2 (seen s)) || eqb (kind2 (seen s)) mul_kind) (not (brk2 (seen s))) b.1 in
-      generator_sure c start st true (seen s) (next s) t ((e, soft c async_kind s e and_no, tt, refl), not-true (brk2 (seen s)) d.1)) (λ _.
+      generator_sure c start st true (seen s) (next s) t ((e, soft c async_kind s e and_false, tt, refl), not-true (brk2 (seen s)) d.1)) (λ _.
       if_sure s.commas (eqb (kind (seen s)) get_kind && starts_key (kind2 (seen s))) _ _ _ (λ z. getter_sure c start st s t (eqb-true (kind (seen s)) get_kind (and_parts (eqb (kind (seen s)) get_kind) _ z).0)) (λ _.
       if_sure s.commas (eqb (kind (seen s)) set_kind && starts_key (kind2 (seen s))) _ _ _ (λ z. setter_member_sure c start st s t (eqb-true (kind (seen s)) set_kind (and_parts (eqb (kind (seen s)) set_kind) _ z).0)) (λ _.
       if_sure s.commas (c.syntax.auto_accessors && (eqb (kind (seen s)) accessor_kind && (starts_key (kind2 (seen s)) && not (brk2 (seen s))))) _ _ _

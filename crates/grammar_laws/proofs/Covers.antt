@@ -1,6 +1,7 @@
 -- Expressions refined to patterns: what a refinement answers produces what the expression did.
 use Rattle.std.proofs.Common.{◌≡◌, ℕ, ◌≤◌, ◌⊎◌, inl, inr, Bool, true, false, not, ◌&&◌, ◌||◌, cond, eqb, List, [], ◌∷◌, Some, None, Result, Ok, Err, refl, sym, ap, ◌∙◌, subst, ⊎_elim, true≢false, arith}
-use Rattle.std.proofs.lemmas.Bool.{eqb-true, and_parts, cases_Bool}
+use Rattle.std.proofs.lemmas.Bool.{eqb-true, and_parts, cases_Bool, and_right}
+use Rattle.grammar_laws.proofs.Shapes.{hole_is}
 use Rattle.base_token.specs.declared.place.Span.{Span}
 use Rattle.base_token.specs.Kinds.{assign_kind, comma_kind, dot_dot_dot_kind, right_bracket_kind, right_brace_kind, colon_kind}
 use Rattle.tree_spec.specs.Tree.{Tree, Trees, none, more, pack, assign_expr, ident, ident_name, str_lit, number_lit, big_int_lit, computed_prop_name, member_expr, super_prop_expr, paren_expr, expr_or_spread, spread_element, key_value_prop, assign_prop, binding_ident, array_pat, object_pat, assign_pat, rest_pat, key_value_pat_prop, assign_pat_prop, expr_pat, hole, absent}
@@ -190,10 +191,6 @@ first_item Q c close f b x xs ts r h = item (is_hole x) h
     item true g = absurd (true≢false (sym g.0))
     item false g = g
 
-no_hole : (a b : Bool) → b ≡ false → (a && b) ≡ false
-no_hole true b e = e
-no_hole false b e = refl
-
 nil_empty : (xs : List Tree) → IsNil xs → IsEmpty (children (pack xs))
 nil_empty [] h = tt
 nil_empty (x ∷ xs) h = h
@@ -219,16 +216,12 @@ module _ (Q : Tree → Input → Input → Type 0) (P : Child → Input → Inpu
       (λ (e : is_hole x ≡ true). let k = yes_by (is_hole x) (Hole xs ts r) (One x xs ts r) e h in
       by_yes (holes && is_hole x) (HoleThere xs ts r) (OneThere x xs ts r) (ap (λ w. w && is_hole x) k.0 ∙ e) (k.1, same_code comma_kind ts k.1 k.2, listed false xs k.1 r k.3))
       (λ (e : is_hole x ≡ false). let k = no_by (is_hole x) (Hole xs ts r) (One x xs ts r) e h in let q = g x ts k.0 k.1 in
-      by_no (holes && is_hole x) (HoleThere xs ts r) (OneThere x xs ts r) (no_hole holes (is_hole x) e) (k.0, q.0, ⊎_elim (λ o. inl (q.1, o.0, same_code comma_kind k.0 o.0 o.1, listed true xs o.0 r o.2)) (λ o. inr (nil_empty xs o.0, same_code close k.0 r o.2)) k.2))
+      by_no (holes && is_hole x) (HoleThere xs ts r) (OneThere x xs ts r) (and_right holes (is_hole x) e) (k.0, q.0, ⊎_elim (λ o. inl (q.1, o.0, same_code comma_kind k.0 o.0 o.1, listed true xs o.0 r o.2)) (λ o. inr (nil_empty xs o.0, same_code close k.0 r o.2)) k.2))
       (cases_Bool (is_hole x))
 
 -- the pattern that comes of an item
 abbrev pub IsRefined : (Child → Input → Input → Type 0) → Tree → Input → Input → Tree → Type 0
 IsRefined P x ts r p = P (child p (λ y. Produces p y)) ts r × (is_rest_item x ≡ false → is_rest p ≡ false) × (is_hole p ≡ false)
-
-hole_is : (x : Tree) → is_hole x ≡ true → x ≡ hole
-hole_is hole e = refl
-hole_is _ e = absurd (true≢false (sym e))
 
 module _ (Q : Tree → Input → Input → Type 0) (P : Child → Input → Input → Type 0) (holes props : Bool) (array : holes ≡ true → props ≡ false) (c d : Code) (same_code : (k : ℕ) (ts r : Input) → Takes c k ts r → Takes d k ts r) (close : ℕ) (f b : Bool) (k : List ℕ)
     (refined : (x : Tree) (ts r : Input) → Q x ts r → Holds (as_prop props x (to_item b k x)) (IsRefined P x ts r)) where
@@ -252,7 +245,7 @@ module _ (Q : Tree → Input → Input → Type 0) (P : Child → Input → Inpu
   hole_items ps ts m r e t h = by_yes (holes && true) (HoleHere ps ts r) (OneHere hole ps ts r) (ap (λ w. w && true) e) (m, same_code comma_kind ts m t, h)
 
   item_items : (p : Tree) (ps : Trees) (x : Tree) (ts m r : Input) → IsRefined P x ts m p → ((is_rest p ≡ false) × (n : Input) × Takes c comma_kind m n × Refined n r ps) ⊎ (IsEmpty (children ps) × Takes c close m r) → Refined ts r (more p ps)
-  item_items p ps x ts m r h o = by_no (holes && is_hole p) (HoleHere ps ts r) (OneHere p ps ts r) (no_hole holes (is_hole p) h.2) (m, h.0, ⊎_elim (λ q. inl (q.0, q.1, same_code comma_kind m q.1 q.2, q.3)) (λ q. inr (q.0, same_code close m r q.1)) o)
+  item_items p ps x ts m r h o = by_no (holes && is_hole p) (HoleHere ps ts r) (OneHere p ps ts r) (and_right holes (is_hole p) h.2) (m, h.0, ⊎_elim (λ q. inl (q.0, q.1, same_code comma_kind m q.1 q.2, q.3)) (λ q. inr (q.0, same_code close m r q.1)) o)
 
   as_hole : (x : Tree) → is_hole x ≡ true → holes ≡ true → (f : Tree → Result Trees Fault) (R : Trees → Type 0) → Holds (f hole) R → Holds (as_prop props x (to_item b k x) >>= f) R
   as_hole x e h f R q = subst (λ (y : Tree). Holds (as_prop props y (to_item b k y) >>= f) R) (sym (hole_is x e)) (subst (λ (z : Bool). Holds (as_prop z hole (to_item b k hole) >>= f) R) (sym (array h)) q)

@@ -1,3 +1,4 @@
+pub mod Shapes
 pub mod Sure
 pub mod Covers
 pub mod Nested

@@ -1,9 +1,9 @@
 -- Lists of statements, blocks, bodies and variables produce what they are read of.
-use Rattle.std.proofs.Common.{◌≡◌, Bool, true, false, ◌&&◌, cond, List, [], ◌∷◌, ◌++◌, Some, None, Ok, refl, sym, subst, true≢false, append_assoc, append-nil, arith}
+use Rattle.std.proofs.Common.{◌≡◌, Bool, true, false, ◌&&◌, cond, List, [], ◌∷◌, ◌++◌, Ok, refl, sym, subst, true≢false, append_assoc, append-nil, arith}
 use Rattle.std.proofs.lemmas.Bool.{and_parts}
 use Rattle.base_token.specs.declared.place.Span.{Span}
 use Rattle.base_token.specs.Kinds.{comma_kind, left_brace_kind, right_brace_kind, assign_kind}
-use Rattle.tree_spec.specs.Tree.{Tree, Trees, pack, block_stmt, var_declarator, absent, expr_stmt, str_lit}
+use Rattle.tree_spec.specs.Tree.{Tree, Trees, pack, block_stmt, var_declarator, absent}
 use Rattle.grammar_spec.specs.Tokens.Input.{Input, Code, kind, Takes, lo, span, in_list, turned_strict}
 use Rattle.grammar_spec.specs.Tokens.Operators.{assignment_level}
 use Rattle.grammar_spec.specs.Tokens.Shape.{is_item, is_block, is_use_strict, is_directive, is_declarator, is_absent}
@@ -17,13 +17,7 @@ use Rattle.grammar_laws.proofs.Sure.{lm, seen, next, Sure, done, then_sure, sure
 use Rattle.grammar_laws.proofs.Covers.{plain, by_no, not_absent}
 use Rattle.grammar_laws.proofs.Nested.{Sound, GotBody}
 use Rattle.grammar_laws.proofs.Functions.{Before, All_read, at_start, one_more, at_end, with_last}
-
--- a directive is an expression statement of a string
-strict_directive : (t : Tree) → is_use_strict t ≡ true → is_directive t ≡ true
-strict_directive (expr_stmt s (str_lit t u (Some w))) e = refl
-strict_directive (expr_stmt s (str_lit t u None)) e = absurd (true≢false (sym e))
-strict_directive (expr_stmt s _) e = absurd (true≢false (sym e))
-strict_directive _ e = absurd (true≢false (sym e))
+use Rattle.grammar_laws.proofs.Shapes.{strict_directive}
 
 -- ---- statements up to a brace, without directives
 

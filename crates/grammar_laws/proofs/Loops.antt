@@ -19,7 +19,8 @@ use Rattle.grammar_laws.proofs.Nested.{Sound, GotStmt, Made}
 use Rattle.grammar_laws.proofs.Groups.{then_placed}
 use Rattle.grammar_laws.proofs.Operators.{both_hold, array_stays, object_stays}
 use Rattle.grammar_laws.proofs.Lists.{Declarators, declarators_sure}
-use Rattle.grammar_laws.proofs.Simple.{sub_sure, present}
+use Rattle.grammar_laws.proofs.Simple.{sub_sure}
+use Rattle.grammar_laws.proofs.Shapes.{present}
 
 -- ---- what a head makes of an expression
 

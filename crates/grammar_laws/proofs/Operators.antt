@@ -17,7 +17,9 @@ use Rattle.grammar_laws.proofs.Sure.{lm, seen, next, same, Sure, done, then_sure
 use Rattle.grammar_laws.proofs.Covers.{plain, by_yes, Holds, then_holds, if_holds, Refines, IsItem, assign_refines}
 use Rattle.grammar_laws.proofs.Nested.{Sound, Made, AtLeast, GotExpr, dull, bracketed_is, computed_sure, private_sure}
 use Rattle.grammar_laws.proofs.Groups.{template_sure, then_placed}
-use Rattle.grammar_laws.proofs.Prefixes.{arguments_sure, prefix_sure, template_is, update_op}
+use Rattle.grammar_laws.proofs.Prefixes.{arguments_sure, prefix_sure, template_is}
+use Rattle.grammar_laws.proofs.complete_base.Levels.{right_most}
+use Rattle.grammar_laws.proofs.Shapes.{right_some, update_op}
 
 -- ---- what goes on, by the kind alone
 
@@ -124,15 +126,9 @@ Low n = n ≤ 15
 low_levels : (op : ℕ) → Low (binary_level op)
 low_levels op = by_level Low op (omega arith) (omega arith) (omega arith) (omega arith) (omega arith) (omega arith) (omega arith) (omega arith) (omega arith) (omega arith) (omega arith) (omega arith) (omega arith)
 
-right_low : (op : ℕ) → right_level op ≤ 16
-right_low op = let low : binary_level op ≤ 15 = low_levels op in cond_below (eqb op exp_kind) _ _ _ (omega arith) (cond_below (eqb op nullish_coalescing_kind) _ _ _ (omega arith) (omega (arith, low)))
-
 cond_above : (b : Bool) (x y n : ℕ) → n ≤ x → n ≤ y → n ≤ cond b x y
 cond_above true x y n h k = h
 cond_above false x y n h k = k
-
-right_high : (op : ℕ) → 1 ≤ right_level op
-right_high op = cond_above (eqb op exp_kind) _ _ _ (omega arith) (cond_above (eqb op nullish_coalescing_kind) _ _ _ (omega arith) (omega arith))
 
 -- a level below that of members is the level that is read
 at_level : (l : ℕ) (t : Tree) → l ≤ 16 → AtLeast l t → l ≤ level t
@@ -341,11 +337,8 @@ module _ (inner : Inner Input) (good : Sound inner) where
   binary_by_sure : (l : ℕ) (c : Code) (start : State Input) (t : Tree) (s : State Input) → Produces t (plain c) (seen start) (seen s) → l ≤ binary_level (kind (seen s)) → operates c (kind (seen s)) ≡ true → fits_left (kind (seen s)) t ≡ true
       → Sure s.commas (binary_by lm inner c start t s) (GotStep l c start)
   unfolding binary_by
-  binary_by_sure l c start t s m p o f = word_sure c (kind (seen s)) s _ _ (λ e b. then_sure s.commas (inner.expr c (right_level (kind (seen s))) (next s)) _ _ _ (good.expr c (right_level (kind (seen s))) (next s) (right_high (kind (seen s)))) (λ v k. let q = bin_expr (span (lo (seen start)) v.1.source.last) (kind (seen s)) t v.0 in
-      done (q, v.1) (GotStep l c start) (p, dull c start q v.1 (seen s, seen (next s), o, f, m, (e, b, tt, refl), (at_level (right_level (kind (seen s))) v.0 (right_low (kind (seen s))) k.0, k.1.produced), refl) (λ y j. refl))))
-
-  not_kind : (k n : ℕ) → (k ≡ n → ⊥) → eqb k n ≡ false
-  not_kind k n f = ne_eqb k n f
+  binary_by_sure l c start t s m p o f = word_sure c (kind (seen s)) s _ _ (λ e b. then_sure s.commas (inner.expr c (right_level (kind (seen s))) (next s)) _ _ _ (good.expr c (right_level (kind (seen s))) (next s) (right_some (kind (seen s)))) (λ v k. let q = bin_expr (span (lo (seen start)) v.1.source.last) (kind (seen s)) t v.0 in
+      done (q, v.1) (GotStep l c start) (p, dull c start q v.1 (seen s, seen (next s), o, f, m, (e, b, tt, refl), (at_level (right_level (kind (seen s))) v.0 (right_most (kind (seen s))) k.0, k.1.produced), refl) (λ y j. refl))))
 
   step_sure : (l : ℕ) (c : Code) (start : State Input) (t : Tree) (s : State Input) → 1 ≤ l → l ≤ level t → Made c start (t, s) → l ≤ goes_expr c (ends t) (seen s) → Sure s.commas (step_by lm inner c start t s) (GotStep l c start)
   unfolding step_by
@@ -362,11 +355,11 @@ module _ (inner : Inner Input) (good : Sound inner) where
       test_sure s.commas (kind (seen s)) question_mark_kind _ _ _ (λ e. only_sure _ s.commas (leb coalesce_level (level t)) _ _ (λ v. cond_by_sure l c start t s sp (leb-true coalesce_level (level t) v)
       (omega (arith, subst (λ z. l ≤ cap c z question_mark_kind) (plain_dot s t e n2) (at question_mark_kind e), cap_plain_question c)) e)) (λ n3.
       if_sure s.commas (operates c (kind (seen s))) _ _ _ (λ e. only_sure _ s.commas (fits_left (kind (seen s)) t) _ _ (λ v. binary_by_sure l c start t s sp
-      (omega (arith, at (kind (seen s)) refl, cap_binary c d (kind (seen s)) (not_kind (kind (seen s)) comma_kind n0) n1 (not_kind (kind (seen s)) question_mark_kind n3) e)) e v)) (λ n4.
+      (omega (arith, at (kind (seen s)) refl, cap_binary c d (kind (seen s)) (ne_eqb (kind (seen s)) comma_kind n0) n1 (ne_eqb (kind (seen s)) question_mark_kind n3) e)) e v)) (λ n4.
       if_sure s.commas (between plus_plus_kind minus_minus_kind (kind (seen s))) _ _ _ (λ e. only_sure _ s.commas (leb new_level (level t) && not (brk (seen s))) _ _ (λ v.
       let b = and_parts (leb new_level (level t)) (not (brk (seen s))) v in let q = update_expr (span (lo (seen start)) (hi (seen s))) (kind (seen s)) false t in
       done (q, next s) (GotStep l c start) (
-        omega (arith, at (kind (seen s)) refl, cap_update c d (kind (seen s)) (not_kind (kind (seen s)) comma_kind n0) n1 (not_kind (kind (seen s)) question_mark_kind n3) n4 e),
+        omega (arith, at (kind (seen s)) refl, cap_update c d (kind (seen s)) (ne_eqb (kind (seen s)) comma_kind n0) n1 (ne_eqb (kind (seen s)) question_mark_kind n3) n4 e),
         dull c start q (next s) (seen s, update_op (kind (seen s)) e, (leb-true new_level (level t) b.0, sp), not-true (brk (seen s)) b.1, (refl, tt, refl), refl) (λ y j. refl),
       ))) (λ n5.
       if_sure s.commas (not (leb call_level (level t))) _ _ _ (λ _. record { so = tt }) (λ nv. let v = leb-true call_level (level t) (not_no (leb call_level (level t)) nv) in

@@ -1,6 +1,7 @@
 -- What starts an expression: names, words, groups, `new`, `super`, `import`, functions and classes, prefix operators.
 use Rattle.std.proofs.Common.{◌≡◌, ℕ, ◌≤◌, ◌⊎◌, inl, inr, Bool, true, false, not, ◌&&◌, ◌||◌, cond, eqb, leb, ltb, List, [], ◌∷◌, Option, Some, None, Ok, refl, sym, ap, ◌∙◌, subst, ⊎_elim, true≢false, arith}
-use Rattle.std.proofs.lemmas.Bool.{eqb-true, and_parts, not-true, cases_Bool, leb-true, ltb-true, cases_eq}
+use Rattle.std.proofs.lemmas.Bool.{eqb-true, and_parts, not-true, cases_Bool, leb-true, ltb-true}
+use Rattle.base_proofs.proofs.Bools.{and_false}
 use Rattle.base_token.specs.declared.place.Span.{Span}
 use Rattle.base_token.specs.Kinds.{comma_kind, arrow_kind, dot_kind, left_paren_kind, right_paren_kind, left_bracket_kind, left_brace_kind, back_quote_kind, plus_plus_kind, minus_minus_kind, mul_kind, null_kind, true_kind, false_kind, await_kind, function_kind, class_kind, new_kind, this_kind, super_kind, import_kind, yield_kind, async_kind, meta_kind, target_kind}
 use Rattle.tree_spec.specs.Tree.{Tree, Trees, pack, this_expr, null_lit, bool_lit, ident, ident_name, fn_expr, class_expr, unary_expr, update_expr, await_expr, yield_expr, new_expr, call_expr, super_prop_expr, meta_prop_expr, super, import, tpl, list, absent, binding_ident, computed_prop_name, expr_or_spread, expr_pat}
@@ -8,7 +9,7 @@ use Rattle.grammar_spec.specs.Tokens.Input.{Input, Code, kind, kind2, brk, brk2,
 use Rattle.grammar_spec.specs.Tokens.Operators.{expression_level, assignment_level, unary_level, new_level, call_level, member_level, goes_expr, other_end, between}
 use Rattle.grammar_spec.specs.Tokens.Shape.{level, is_element, is_spread, is_default_decl, FunctionParts, function_parts, class_span}
 use Rattle.grammar_spec.specs.Children.{child, IsEmpty, Sorted}
-use Rattle.grammar_spec.specs.Expressions.{ArgumentList, ImportArguments, Yield, TemplateLiteral, is_update_op}
+use Rattle.grammar_spec.specs.Expressions.{ArgumentList, ImportArguments, Yield, TemplateLiteral}
 use Rattle.grammar_spec.specs.Functions.{Async, FunctionExpression, FunctionHead, ClassExpression}
 use Rattle.grammar_spec.specs.Grammar.{Produces, children}
 use Rattle.grammar_spec.specs.Reader.Source.{unfit, State, Inner, operand, is_name}
@@ -17,8 +18,9 @@ use Rattle.grammar_laws.proofs.Sure.{lm, seen, next, same, Sure, done, then_sure
 use Rattle.grammar_laws.proofs.Covers.{plain, by_yes, by_no, Holds, IsItem, Elems, IsNil, Element, first_item, listed}
 use Rattle.grammar_laws.proofs.Nested.{Sound, Made, named, elements_sure, literal_sure, dull, bracketed_is, computed_sure}
 use Rattle.grammar_laws.proofs.Functions.{function_sure, star_sure}
-use Rattle.grammar_laws.proofs.Primaries.{element_sorted, and_no, soft, array_sure, object_sure}
+use Rattle.grammar_laws.proofs.Primaries.{element_sorted, soft, array_sure, object_sure}
 use Rattle.grammar_laws.proofs.Groups.{IsTemplate, template_sure, then_placed, IsParams, params_hold, arrow_sure, at_arrow, heads_arrow, paren_sure}
+use Rattle.grammar_laws.proofs.Shapes.{update_op}
 
 -- ---- names
 
@@ -26,7 +28,7 @@ pub made_name : (c : Code) (s : State Input) → IsName c s → Made c s (ident 
 made_name c s i = record { produced = named c s i; refines = λ k g. record { so = λ b f. record { so = (refl, (refl, named c s i)) } } }
 
 soft_name : (c : Code) (s : State Input) → kind (seen s) ≡ async_kind → IsName c s
-soft_name c s e = (subst (λ (k : ℕ). is_word k ≡ true) (sym e) refl, subst (λ (k : ℕ). no_name c.context k ≡ false) (sym e) refl, soft c async_kind s e and_no)
+soft_name c s e = (subst (λ (k : ℕ). is_word k ≡ true) (sym e) refl, subst (λ (k : ℕ). no_name c.context k ≡ false) (sym e) refl, soft c async_kind s e and_false)
 
 pub template_is : (tagged : Bool) (c : Code) (ts r : Input) (P : Tree → Type 0) → ((s : Span) (es qs : Trees) → TemplateLiteral tagged c s (children es) (children qs) ts r → P (tpl s es qs)) → (q : Tree) → IsTemplate tagged c ts r q → P q
 template_is tagged c ts r P f (tpl s es qs) h = f s es qs h
@@ -102,7 +104,7 @@ module _ (inner : Inner Input) (good : Sound inner) where
       if_sure xs.1.commas (heads_params lm inner l xs.0 xs.1 && not (brk (seen (next s)))) _ _ _
       (λ a. let b = and_parts (heads_params lm inner l xs.0 xs.1) (not (brk (seen (next s)))) a in
       then_placed _ xs.1.commas (params_of lm inner xs.1.commas xs.0) _ (IsParams c (seen (next (next s))) (seen xs.1)) _ (params_hold inner c xs.1.commas xs.0 (seen (next (next s))) (seen xs.1) h) (λ ps q.
-      arrow_sure inner good c s true ps xs.1 (seen (next s), ((e, soft c async_kind s e and_no, tt, refl), not-true (brk (seen (next s))) b.1), inr (seen (next (next s)), (o, tt, refl), q)) (heads_arrow inner good l xs.0 xs.1 b.0)))
+      arrow_sure inner good c s true ps xs.1 (seen (next s), ((e, soft c async_kind s e and_false, tt, refl), not-true (brk (seen (next s))) b.1), inr (seen (next (next s)), (o, tt, refl), q)) (heads_arrow inner good l xs.0 xs.1 b.0)))
       (λ _. let t = call_expr (span (lo (seen s)) xs.1.source.last) (ident (first_span (seen s)) (text (seen s))) (pack xs.0.items) in
       done (t, xs.1) (Made c s) (dull c s t xs.1 (seen (next s), refl, (omega arith, named c s (soft_name c s e)), (seen (next (next s)), (o, tt, refl), argument_list_in xs.1.commas c xs.0.comma xs.0.items (seen (next (next s))) (seen xs.1) h), refl) (λ b k. refl))))
 
@@ -138,7 +140,7 @@ module _ (inner : Inner Input) (good : Sound inner) where
 
   async_sure : (c : Code) (l : ℕ) (s : State Input) → kind (seen s) ≡ async_kind → Sure s.commas (async_by lm inner c l s) (Made c s)
   unfolding async_by
-  async_sure c l s e = let t = soft c async_kind s e and_no in
+  async_sure c l s e = let t = soft c async_kind s e and_false in
       if_sure s.commas ((eqb (kind (seen (next s))) function_kind && not (brk (seen (next s)))) && not (barred c.context (seen (next s)))) _ _ _
       (λ z. let b = and_parts (eqb (kind (seen (next s))) function_kind) (not (brk (seen (next s)))) (and_parts (eqb (kind (seen (next s))) function_kind && not (brk (seen (next s)))) _ z).0 in
       sure_map s.commas (function_expr_by lm inner c s true (next s)) _ _ (function_expr_sure c s true (next s) ((e, t, tt, refl), not-true (brk (seen (next s))) b.1)) (λ x h. h.0))
@@ -160,11 +162,6 @@ module _ (inner : Inner Input) (good : Sound inner) where
 yield_with : (c : Code) (s : Span) (e : Tree) (g : Bool) (ts r : Input) → 2 ≤ level e → Yield c s (child e (λ y. Produces e y)) g ts r → Produces (yield_expr s e g) c ts r
 yield_with c s absent g ts r l h = absurd (omega (arith, l))
 yield_with c s _ g ts r l h = h
-
-pub update_op : (k : ℕ) → between plus_plus_kind minus_minus_kind k ≡ true → is_update_op k ≡ true
-update_op k e = let b = and_parts (leb plus_plus_kind k) (leb k minus_minus_kind) e in let lo = leb-true plus_plus_kind k b.0 in let hi = leb-true k minus_minus_kind b.1 in
-    ⊎_elim (λ (q : k ≡ plus_plus_kind). subst (λ (j : ℕ). is_update_op j ≡ true) (sym q) refl) (λ (n : k ≡ plus_plus_kind → ⊥).
-    let q : k ≡ minus_minus_kind = omega (arith, lo, hi, n) in subst (λ (j : ℕ). is_update_op j ≡ true) (sym q) refl) (cases_eq k plus_plus_kind)
 
 new_level_of : (l : ℕ) → (leb member_level l || eqb l new_level) ≡ true → (l ≡ new_level) ⊎ (member_level ≤ l)
 new_level_of l e = ⊎_elim (λ (q : leb member_level l ≡ true). inr (leb-true member_level l q)) (λ (q : leb member_level l ≡ false). inl (eqb-true l new_level (subst (λ b. (b || eqb l new_level) ≡ true) q e))) (cases_Bool (leb member_level l))

@@ -1,6 +1,7 @@
 -- Arrays, objects, templates, groups and arrows produce what they are read of.
 use Rattle.std.proofs.Common.{◌≡◌, ℕ, Bool, true, false, not, ◌&&◌, ◌||◌, cond, eqb, List, ◌∷◌, Option, Some, refl, sym, ◌∙◌, subst, true≢false, eq-eqb, arith}
 use Rattle.std.proofs.lemmas.Bool.{eqb-true, and_parts, not-true, or_left}
+use Rattle.base_proofs.proofs.Bools.{and_false}
 use Rattle.base_token.specs.declared.place.Span.{Span}
 use Rattle.base_token.specs.Kinds.{colon_kind, dot_dot_dot_kind, left_paren_kind, right_paren_kind, left_bracket_kind, right_bracket_kind, left_brace_kind, right_brace_kind, assign_kind, mul_kind, async_kind, get_kind, set_kind}
 use Rattle.tree_spec.specs.Tree.{Tree, pack, array_lit, object_lit, ident, expr_or_spread, spread_element, key_value_prop, assign_prop, getter_prop, setter_prop, method_prop}
@@ -53,10 +54,6 @@ prop_sorted k c x ts r q = ((q.sort, q.produced), no_rest x q.sort)
     no_rest (method_prop s k f) h = refl
     no_rest _ h = absurd (true≢false (sym h))
 
-pub and_no : (z : Bool) → (z && false) ≡ false
-and_no true = refl
-and_no false = refl
-
 -- a contextual word is never barred
 pub soft : (c : Code) (k : ℕ) (s : State Input) → kind (seen s) ≡ k → ((z : Bool) → (z && (no_name c.context k || (strict_reserved k && c.context.strict))) ≡ false) → barred c.context (seen s) ≡ false
 soft c k s e h = subst (λ (j : ℕ). (escaped (seen s) && (no_name c.context j || (strict_reserved j && c.context.strict))) ≡ false) (sym e) (h (escaped (seen s)))
@@ -106,7 +103,7 @@ module _ (inner : Inner Input) (good : Sound inner) where
       then_sure k.1.commas (inner.body (in_body false false c) (next (next k.1))) _ _ _ (good.body (in_body false false c) (next (next k.1))) (λ b w.
       done (getter_prop (span (lo (seen s)) b.1.source.last) k.0 b.0, b.1) (GotProp c s) (body_is (plain (in_body false false c)) (seen (next (next k.1))) (seen b.1)
       (λ z. (is_hole (getter_prop (span (lo (seen s)) b.1.source.last) k.0 z) ≡ false) × ((l : List ℕ) → Grows b.1.commas l → Prop l c (getter_prop (span (lo (seen s)) b.1.source.last) k.0 z) (seen s) (seen b.1)))
-      (λ t ss y. (refl, λ l u. record { sort = refl; produced = (seen (next s), seen k.1, seen (next k.1), seen (next (next k.1)), (e, soft c get_kind s e and_no, tt, refl), q, (o, tt, refl), (p, tt, refl), y, refl); refines = λ a. record { so = tt } })) b.0 w)))))
+      (λ t ss y. (refl, λ l u. record { sort = refl; produced = (seen (next s), seen k.1, seen (next k.1), seen (next (next k.1)), (e, soft c get_kind s e and_false, tt, refl), q, (o, tt, refl), (p, tt, refl), y, refl); refines = λ a. record { so = tt } })) b.0 w)))))
 
   setter_prop_sure : (c : Code) (s : State Input) → kind (seen s) ≡ set_kind → Sure s.commas (setter_by lm inner c s) (GotProp c s)
   unfolding setter_by
@@ -114,7 +111,7 @@ module _ (inner : Inner Input) (good : Sound inner) where
       then_sure p.1.commas (inner.body (in_body false false c) p.1) _ _ _ (good.body (in_body false false c) p.1) (λ b w. let d = pattern_spelled inner (in_body false false c) p.0 h.0 h.1 h.2 h.3 h.5 in
       done (setter_prop (span (lo (seen s)) b.1.source.last) k.0 (pattern_of lm inner p.0) b.0, b.1) (GotProp c s) (body_is (plain (in_body false false c)) (seen p.1) (seen b.1)
       (λ z. (is_hole (setter_prop (span (lo (seen s)) b.1.source.last) k.0 (pattern_of lm inner p.0) z) ≡ false) × ((l : List ℕ) → Grows b.1.commas l → Prop l c (setter_prop (span (lo (seen s)) b.1.source.last) k.0 (pattern_of lm inner p.0) z) (seen s) (seen b.1)))
-      (λ t ss y. (refl, λ l u. record { sort = refl; produced = (seen (next s), seen k.1, h.0, h.1, seen p.1, (e, soft c set_kind s e and_no, tt, refl), q, h.4, d.0, d.1, d.2, h.6, y, refl); refines = λ a. record { so = tt } })) b.0 w))))
+      (λ t ss y. (refl, λ l u. record { sort = refl; produced = (seen (next s), seen k.1, h.0, h.1, seen p.1, (e, soft c set_kind s e and_false, tt, refl), q, h.4, d.0, d.1, d.2, h.6, y, refl); refines = λ a. record { so = tt } })) b.0 w))))
 
   prop_rest_sure : (c : Code) (s : State Input) (k : Tree) (r : State Input) → Grows s.commas r.commas → is_key k ≡ true → Produces k (plain c) (seen s) (seen r) → Sure s.commas (prop_rest lm inner c s k r) (GotProp c s)
   unfolding prop_rest
@@ -145,7 +142,7 @@ module _ (inner : Inner Input) (good : Sound inner) where
       (λ _. if_sure s.commas (is_async_head lm inner s) _ _ _
       (λ z. let b = and_parts (eqb (kind (seen s)) async_kind) ((starts_key (kind2 (seen s)) || eqb (kind2 (seen s)) mul_kind) && not (brk2 (seen s))) z in
       let e = eqb-true (kind (seen s)) async_kind b.0 in let d = and_parts (starts_key (kind2 (seen s)) || eqb (kind2 (seen s)) mul_kind) (not (brk2 (seen s))) b.1 in
-      star_sure inner c (next s) _ _ (λ g r q t. subst (λ j. Sure j (method_prop_by lm inner c (lo (seen s)) g true r) (GotProp c s)) q (method_sure c s g true r (seen (next s), ((e, soft c async_kind s e and_no, tt, refl), not-true (brk2 (seen s)) d.1), t))))
+      star_sure inner c (next s) _ _ (λ g r q t. subst (λ j. Sure j (method_prop_by lm inner c (lo (seen s)) g true r) (GotProp c s)) q (method_sure c s g true r (seen (next s), ((e, soft c async_kind s e and_false, tt, refl), not-true (brk2 (seen s)) d.1), t))))
       (λ _. if_sure s.commas (is_accessor lm inner get_kind s) _ _ _ (λ z. getter_sure c s (eqb-true (kind (seen s)) get_kind (and_parts (eqb (kind (seen s)) get_kind) _ z).0))
       (λ _. if_sure s.commas (is_accessor lm inner set_kind s) _ _ _ (λ z. setter_prop_sure c s (eqb-true (kind (seen s)) set_kind (and_parts (eqb (kind (seen s)) set_kind) _ z).0))
       (λ _. then_any s.commas (key_by lm inner c s) _ _ _ (key_sure inner good c s) (λ k g q. prop_rest_sure c s k.0 k.1 g q.0 q.1))))))

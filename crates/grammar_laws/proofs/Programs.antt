@@ -1,6 +1,7 @@
 -- Imports, exports and whole programs produce what they are read of.
 use Rattle.std.proofs.Common.{◌≡◌, ℕ, ◌⊎◌, inl, inr, Bool, true, false, not, ◌&&◌, ◌||◌, cond, eqb, List, [], ◌∷◌, ◌++◌, Option, Some, None, refl, sym, ap, subst, ⊎_elim, true≢false, append-nil, arith}
-use Rattle.std.proofs.lemmas.Bool.{eqb-true, and_parts, not-true, cases_Bool, ne_eqb, or_from}
+use Rattle.std.proofs.lemmas.Bool.{eqb-true, and_parts, not-true, cases_Bool, ne_eqb, or_from, or_left, or_right}
+use Rattle.base_proofs.proofs.Bools.{and_false}
 use Rattle.base_token.specs.declared.place.Span.{Span}
 use Rattle.base_token.specs.Kinds.{left_brace_kind, right_brace_kind, comma_kind, mul_kind, str_kind, shebang_kind, default_kind, function_kind, with_kind, class_kind, export_kind, import_kind, as_kind, assert_kind, async_kind, from_kind}
 use Rattle.base_token.specs.Tokens.{Content, Line}
@@ -19,7 +20,7 @@ use Rattle.grammar_laws.proofs.Sure.{lm, seen, next, Sure, done, then_sure, then
 use Rattle.grammar_laws.proofs.Covers.{plain, by_no}
 use Rattle.grammar_laws.proofs.Nested.{Sound, named, end_sure, literal_sure}
 use Rattle.grammar_laws.proofs.Functions.{Before, All_read, at_start, one_more, at_end, with_last, ListedTrees}
-use Rattle.grammar_laws.proofs.Primaries.{and_no, soft, object_sure}
+use Rattle.grammar_laws.proofs.Primaries.{soft, object_sure}
 use Rattle.grammar_laws.proofs.Prefixes.{function_expr_sure, class_expr_sure}
 use Rattle.grammar_laws.proofs.Lists.{BodyFront, BodyWhole, BodySteps, body_goes}
 use Rattle.grammar_laws.proofs.Simple.{ended}
@@ -214,7 +215,7 @@ module _ (inner : Inner Input) (good : Sound inner) where
       (λ _. then_sure s.commas (function_expr_by lm inner c s false s) _ _ _ (function_expr_sure inner good c s false s refl) (λ d h. done (export_default_decl (span (lo (seen start)) d.1.source.last) d.0, d.1) (GotItem c start) (refl, (seen s, t, h.1, h.0.produced, refl)))) (λ nf.
       if_sure s.commas (starts_async lm inner s) _ _ _ (λ z. let b = and_parts (eqb (kind (seen s)) async_kind) (eqb (kind2 (seen s)) function_kind && not (brk2 (seen s))) z in let w = and_parts (eqb (kind2 (seen s)) function_kind) (not (brk2 (seen s))) b.1 in
       let e = eqb-true (kind (seen s)) async_kind b.0 in
-      then_sure s.commas (function_expr_by lm inner c s true (next s)) _ _ _ (function_expr_sure inner good c s true (next s) ((e, soft c async_kind s e and_no, tt, refl), not-true (brk2 (seen s)) w.1)) (λ d h. done (export_default_decl (span (lo (seen start)) d.1.source.last) d.0, d.1) (GotItem c start) (refl, (seen s, t, h.1, h.0.produced, refl)))) (λ na.
+      then_sure s.commas (function_expr_by lm inner c s true (next s)) _ _ _ (function_expr_sure inner good c s true (next s) ((e, soft c async_kind s e and_false, tt, refl), not-true (brk2 (seen s)) w.1)) (λ d h. done (export_default_decl (span (lo (seen start)) d.1.source.last) d.0, d.1) (GotItem c start) (refl, (seen s, t, h.1, h.0.produced, refl)))) (λ na.
       test_sure s.commas (kind (seen s)) class_kind _ _ _
       (λ _. then_sure s.commas (class_expr_by lm inner c s) _ _ _ (class_expr_sure inner good c s) (λ d h. done (export_default_decl (span (lo (seen start)) d.1.source.last) d.0, d.1) (GotItem c start) (refl, (seen s, t, h.1, h.0.produced, refl)))) (λ nc.
       then_sure s.commas (inner.expr c assignment_level s) _ _ _ (good.expr c assignment_level s (omega arith)) (λ e h. end_sure c (ends e.0) e.1 _ _ (λ r q z. ended e.1 r (export_default_expr (span (lo (seen start)) r.source.last) e.0) (GotItem c start) q
@@ -267,14 +268,6 @@ module _ (inner : Inner Input) (good : Sound inner) where
 
   abbrev May : Bool → Tree → Bool
   May modules t = cond modules (is_module_item t) (is_item t)
-
-  or_right : (a b : Bool) → b ≡ true → (a || b) ≡ true
-  or_right true b e = refl
-  or_right false b e = e
-
-  or_left : (a b : Bool) → a ≡ true → (a || b) ≡ true
-  or_left true b e = refl
-  or_left false b e = absurd (true≢false (sym e))
 
   pub item_sure : (modules : Bool) (c : Code) (s : State Input) → Sure s.commas (item_by lm inner modules (in_list c) s) (λ x. (May modules x.0 ≡ true) × Produces x.0 (plain (in_list c)) (seen s) (seen x.1))
   unfolding item_by

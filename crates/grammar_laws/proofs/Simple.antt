@@ -1,30 +1,23 @@
 -- Statements other than loops with a head: they produce what they are read of.
-use Rattle.std.proofs.Common.{◌≡◌, ℕ, ◌≤◌, inl, inr, Bool, true, false, not, ◌&&◌, ◌||◌, eqb, List, [], ◌∷◌, ◌++◌, Ok, refl, sym, ap, ◌∙◌, subst, true≢false, append_assoc, append-nil, arith}
+use Rattle.std.proofs.Common.{◌≡◌, ℕ, inl, inr, Bool, true, false, not, ◌&&◌, ◌||◌, eqb, List, [], ◌∷◌, ◌++◌, Ok, refl, sym, ap, ◌∙◌, subst, true≢false, append_assoc, append-nil, arith}
 use Rattle.std.proofs.lemmas.Bool.{or_parts, or_left}
 use Rattle.base_token.specs.declared.place.Span.{Span}
 use Rattle.base_token.specs.Kinds.{left_paren_kind, right_paren_kind, left_brace_kind, right_brace_kind, semicolon_kind, colon_kind, end_kind, case_kind, catch_kind, debugger_kind, default_kind, do_kind, else_kind, finally_kind, if_kind, return_kind, switch_kind, throw_kind, try_kind, while_kind, with_kind}
 use Rattle.tree_spec.specs.Tree.{Tree, pack, ident, absent, with_stmt, while_stmt, do_while_stmt, if_stmt, return_stmt, throw_stmt, debugger_stmt, switch_stmt, switch_case, try_stmt, catch_clause}
 use Rattle.grammar_spec.specs.Tokens.Input.{Input, Code, kind, brk, barred, text, Takes, TakesWord, lo, hi, span, first_span, in_list, alone, is_strict}
 use Rattle.grammar_spec.specs.Tokens.Operators.{expression_level, plain_end}
-use Rattle.grammar_spec.specs.Tokens.Shape.{level, ends, is_absent, is_item, is_statement, is_plain_function, is_block, is_case, is_catch, is_default_case, is_binding}
+use Rattle.grammar_spec.specs.Tokens.Shape.{ends, is_absent, is_item, is_statement, is_plain_function, is_block, is_case, is_catch, is_default_case, is_binding}
 use Rattle.grammar_spec.specs.Children.{child, By, Expr, Sorted, Maybe, Items, Ends, is_ident}
 use Rattle.grammar_spec.specs.Statements.{Sub, SubOrFunction, InParens, Jump, Cases, ClosesCase}
 use Rattle.grammar_spec.specs.Grammar.{Produces, children}
 use Rattle.grammar_spec.specs.Reader.Source.{State, Inner, go_on, finished, iterate}
-use Rattle.grammar_spec.specs.Reader.Statements.{block_by, in_parens, sub_by, with_by, while_by, do_by, Branch, Chain, chained, branched, else_by, if_step, if_by, ends_here, return_by, throw_by, label_by, jump_by, debugger_by, case_step, case_rest, case_by, has_default, cases_step, switch_by, catch_by, finally_by, try_by}
+use Rattle.grammar_spec.specs.Reader.Statements.{block_by, in_parens, sub_by, with_by, while_by, do_by, Chain, chained, branched, else_by, if_step, if_by, ends_here, return_by, throw_by, label_by, jump_by, debugger_by, case_step, case_rest, case_by, has_default, cases_step, switch_by, catch_by, finally_by, try_by}
 use Rattle.grammar_laws.proofs.Sure.{lm, seen, next, Grows, same, Sure, done, gives, then_sure, if_sure, test_sure, only_sure, eat_sure, word_sure, name_sure, StepSure, loop_sure}
 use Rattle.grammar_laws.proofs.Covers.{patterned, plain, by_no}
 use Rattle.grammar_laws.proofs.Nested.{Sound, GotStmt, named, end_sure}
 use Rattle.grammar_laws.proofs.Functions.{Before, All_read, at_start, one_more, at_end}
 use Rattle.grammar_laws.proofs.Lists.{block_sure}
-
-pub present : (e : Tree) → 1 ≤ level e → is_absent e ≡ false
-present absent l = absurd (omega (arith, l))
-present _ l = refl
-
-chained_snoc : (hi : ℕ) (bs : List Branch) (b : Branch) (t : Tree) → chained hi (bs ++ b ∷ []) t ≡ chained hi bs (if_stmt (span b.start hi) b.test b.consequent t)
-chained_snoc hi [] b t = refl
-chained_snoc hi (x ∷ bs) b t = ap (λ (y : Tree). if_stmt (span x.start hi) x.test x.consequent y) (chained_snoc hi bs b t)
+use Rattle.grammar_laws.proofs.Shapes.{present, chained_snoc}
 
 -- an answer that stands where the source stood
 pub ended : {A : Type 0} (s r : State Input) (x : A) (P : A × State Input → Type 0) → r.commas ≡ s.commas → P (x, r) → Sure s.commas (Ok (x, r)) P

@@ -1,6 +1,7 @@
 -- Any statement or declaration produces what it is read of.
 use Rattle.std.proofs.Common.{◌≡◌, ℕ, Bool, true, false, not, ◌&&◌, ◌||◌, cond, eqb, leb, List, Option, Some, Result, Err, refl, sym, ap, subst, true≢false, arith}
 use Rattle.std.proofs.lemmas.Bool.{eqb-true, and_parts, not-true, ne_eqb, or_from}
+use Rattle.base_proofs.proofs.Bools.{and_false}
 use Rattle.base_token.specs.declared.place.Span.{Span}
 use Rattle.base_token.specs.Kinds.{left_bracket_kind, left_brace_kind, semicolon_kind, colon_kind, await_kind, break_kind, continue_kind, debugger_kind, do_kind, for_kind, function_kind, if_kind, return_kind, switch_kind, throw_kind, try_kind, var_kind, let_kind, const_kind, while_kind, with_kind, class_kind, async_kind, using_kind}
 use Rattle.tree_spec.specs.Tree.{Tree, pack, ident, empty_stmt, break_stmt, continue_stmt, fn_decl, class_decl, var_decl, using_decl, expr_stmt, labeled_stmt}
@@ -18,7 +19,7 @@ use Rattle.grammar_laws.proofs.Sure.{lm, seen, next, Sure, done, then_sure, sure
 use Rattle.grammar_laws.proofs.Covers.{plain}
 use Rattle.grammar_laws.proofs.Nested.{Sound, GotStmt, named, end_sure}
 use Rattle.grammar_laws.proofs.Functions.{function_sure, star_sure}
-use Rattle.grammar_laws.proofs.Primaries.{and_no, soft}
+use Rattle.grammar_laws.proofs.Primaries.{soft}
 use Rattle.grammar_laws.proofs.Lists.{block_sure, Declarators, declarators_sure}
 use Rattle.grammar_laws.proofs.Simple.{ended, either_sure, with_sure, while_sure, do_sure, if_stmt_sure, return_sure, throw_sure, debugger_sure, jump_sure, switch_sure, try_sure}
 use Rattle.grammar_laws.proofs.Loops.{for_sure, no_pattern, var_word}
@@ -98,7 +99,7 @@ module _ (inner : Inner Input) (good : Sound inner) where
       test_sure s.commas (kind (seen s)) function_kind _ _ _ (λ _. function_sure_by c s false s refl) (λ nf.
       test_sure s.commas (kind (seen s)) class_kind _ _ _ (λ _. refused _ c.listed s.commas _ _ (class_sure c s)) (λ nc.
       if_sure s.commas (starts_async lm inner s) _ _ _ (λ z. let b = and_parts (eqb (kind (seen s)) async_kind) (eqb (kind2 (seen s)) function_kind && not (brk2 (seen s))) z in let d = and_parts (eqb (kind2 (seen s)) function_kind) (not (brk2 (seen s))) b.1 in
-      let e = eqb-true (kind (seen s)) async_kind b.0 in refused _ c.listed s.commas _ _ (function_sure_by c s true (next s) ((e, soft c async_kind s e and_no, tt, refl), not-true (brk2 (seen s)) d.1))) (λ na.
+      let e = eqb-true (kind (seen s)) async_kind b.0 in refused _ c.listed s.commas _ _ (function_sure_by c s true (next s) ((e, soft c async_kind s e and_false, tt, refl), not-true (brk2 (seen s)) d.1))) (λ na.
       if_sure s.commas (starts_variables lm inner c s) _ _ _ (λ z. variables_sure c s (listed_word (eqb (kind (seen s)) var_kind) c.listed (eqb (kind (seen s)) let_kind) (eqb (kind (seen s)) const_kind) _ z)) (λ _.
       if_sure s.commas (c.listed && starts_using lm inner c s) _ _ _ (λ z. let b = and_parts c.listed (starts_using lm inner c s) z in
       let d = and_parts c.syntax.explicit_resource_management _ b.1 in let i = and_parts (eqb (kind (seen s)) using_kind) (may_name (kind2 (seen s)) && not (brk2 (seen s))) d.1 in let j = and_parts (may_name (kind2 (seen s))) (not (brk2 (seen s))) i.1 in

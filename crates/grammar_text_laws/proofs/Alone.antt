@@ -3,7 +3,7 @@ use Rattle.std.proofs.Common.{◌≡◌, ℕ, zero, suc, ◌+◌, ◌≤◌, ◌
 use Rattle.std.proofs.lemmas.Bool.{eqb-true, eqb-false, cases_Bool}
 use Rattle.base_token.specs.declared.syntax.EsSyntax.{EsSyntax}
 use Rattle.base_token.specs.Kinds.{regex_kind}
-use Rattle.base_token.specs.Tokens.{SpecToken, Spot}
+use Rattle.base_token.specs.Tokens.{Spot}
 use Rattle.tree_spec.specs.Tree.{Tree, script, es_module}
 use Rattle.lex_pieces.specs.Places.{bytes}
 use Rattle.lex_pieces.specs.declared.trivia.Goal.{Goal}
@@ -11,7 +11,7 @@ use Rattle.lex_token.specs.declared.goal.LexicalGoal.{LexicalGoal}
 use Rattle.lex_token.specs.declared.goal.LexicalGoal.TheVariants.{Div, RegExp}
 use Rattle.lex_token.specs.Lexemes.{SpecLexeme, IsLexeme}
 use Rattle.lex_token.proofs.LexemeLemmas.{none_at_end, one_lexeme}
-use Rattle.lex_step_laws.specs.States.{shebang, spot_at}
+use Rattle.lex_step_laws.specs.States.{shebang}
 use Rattle.lex_step_laws.proofs.TriviaLemmas.{one_hashbang, one_skipped}
 use Rattle.grammar_spec.specs.Tokens.Input.{PlacedToken, Input, template_goal}
 use Rattle.grammar_spec.specs.Grammar.{Derives}
@@ -22,16 +22,13 @@ use Rattle.grammar_text_spec.specs.Text.{is_of_goal, text_start, code_of}
 use Rattle.grammar_text_spec.specs.Tiled.{goal_at, whole, IsBeforeBy, IsBefore, IsTile, AreTiles, IsHashbangTile, AfterHashbang}
 use Rattle.grammar_text_laws.specs.Laws.{region_of, region, Part, TilesPart, OneTree, Plain, OnePlainTree}
 use Rattle.grammar_text_laws.proofs.Ordered.{places_in_order}
+use Rattle.grammar_text_laws.proofs.Apart.{one_before, spots_same}
 
 -- ---- one token
 
 -- what stands before a token, the token and the rest are the same
 abbrev Alike : Bool → Bool → List ℕ → List ℕ → SpecLexeme → SpecLexeme → List ℕ → List ℕ → Type 0
 Alike a b f e x y r s = (a ≡ b) × (f ≡ e) × (x ≡ y) × (r ≡ s)
-
-one_before : (k : Bool) (goal : Goal) (first : Bool) (text : List ℕ) (a b : Bool) (f e : List ℕ) → IsBeforeBy k goal first text a f → IsBeforeBy k goal first text b e → (a ≡ b) × (f ≡ e)
-one_before true goal first text a b f e h g = (h.1 ∙ sym g.1, sym h.0 ∙ g.0)
-one_before false goal first text a b f e h g = one_skipped goal first text a b f e h g
 
 -- under one goal
 under : (l : LexicalGoal) (a b : Bool) (f e : List ℕ) (x y : SpecLexeme) (r s : List ℕ) → (a ≡ b) × (f ≡ e) → IsLexeme l f x r → IsLexeme l e y s → Alike a b f e x y r s
@@ -65,9 +62,6 @@ one_at (suc (suc n)) (suc (suc m)) goal first text a b f e x y r s q i j k l = l
     under (goal_at d) a b f e x y r s (one_before (nat_le template_goal d) goal first text a b f e (subst (λ (c : ℕ). IsBefore c goal first text a f) q i) j) (subst (λ (c : ℕ). IsLexeme (goal_at c) f x r) q k) l
 
 -- ---- all tokens
-
-spots_same : (end : ℕ) (a b : Bool) (x y : SpecToken) (f e r s : List ℕ) → a ≡ b → f ≡ e → x ≡ y → r ≡ s → spot_at end a x f r ≡ spot_at end b y e s
-spots_same end a b x y f e r s p q u v = ap (λ (z : Bool). spot_at end z x f r) p ∙ (ap (λ (z : List ℕ). spot_at end b x z r) q ∙ (ap (λ (z : SpecToken). spot_at end b z e r) u ∙ ap (λ (z : List ℕ). spot_at end b y e z) v))
 
 one_tile : (end : ℕ) (goal : Goal) (first : Bool) (text : List ℕ) (p q : PlacedToken) (r s : List ℕ) → region p ≡ region q → IsTile end goal first text p r → IsTile end goal first text q s → SameToken p q × (r ≡ s)
 one_tile end goal first text p q r s e h g =

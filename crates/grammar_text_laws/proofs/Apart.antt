@@ -65,10 +65,10 @@ slashed text rest inner k e h = by_case (or_cases (eqb (token_kind_number k) div
 abbrev pub Apart : PlacedToken → PlacedToken → Type 0
 Apart p q = IsPattern p × IsSlash q × (p.spot.lo ≡ q.spot.lo) × (p.spot.line_break ≡ q.spot.line_break)
 
-spots_same : (end : ℕ) (a b : Bool) (x y : SpecToken) (f e r s : List ℕ) → a ≡ b → f ≡ e → x ≡ y → r ≡ s → spot_at end a x f r ≡ spot_at end b y e s
+pub spots_same : (end : ℕ) (a b : Bool) (x y : SpecToken) (f e r s : List ℕ) → a ≡ b → f ≡ e → x ≡ y → r ≡ s → spot_at end a x f r ≡ spot_at end b y e s
 spots_same end a b x y f e r s p q u v = ap (λ (z : Bool). spot_at end z x f r) p ∙ (ap (λ (z : List ℕ). spot_at end b x z r) q ∙ (ap (λ (z : SpecToken). spot_at end b z e r) u ∙ ap (λ (z : List ℕ). spot_at end b y e z) v))
 
-one_before : (k : Bool) (goal : Goal) (first : Bool) (text : List ℕ) (a b : Bool) (f e : List ℕ) → IsBeforeBy k goal first text a f → IsBeforeBy k goal first text b e → (a ≡ b) × (f ≡ e)
+pub one_before : (k : Bool) (goal : Goal) (first : Bool) (text : List ℕ) (a b : Bool) (f e : List ℕ) → IsBeforeBy k goal first text a f → IsBeforeBy k goal first text b e → (a ≡ b) × (f ≡ e)
 one_before true goal first text a b f e h g = (h.1 ∙ sym g.1, sym h.0 ∙ g.0)
 one_before false goal first text a b f e h g = one_skipped goal first text a b f e h g
 

@@ -16,9 +16,9 @@ use Rattle.lex_source.specs.Canonical.Moved.{moved_from}
 use Rattle.lex_run_laws.specs.CanonicalLaws.{CanonicalReads, text_start}
 use Rattle.lex_run_laws.specs.Turns.{Turn, Turns, all_spots, asked, end_at, is_reread, is_slash_kind, kept, moved_behind, moved_turn, told}
 use Rattle.lex_run_laws.proofs.Going.{Quiet, QuietBy, Sits, never_again, quiet_after}
-use Rattle.lex_run_laws.proofs.Making.{sits_behind, spot_kind, took_again}
+use Rattle.lex_run_laws.proofs.Making.{sits_behind, took_again}
 use Rattle.lex_run_laws.proofs.Rereads.{pair, second_of, second_sits, slash_how, slash_parts}
-use Rattle.lex_run_laws.proofs.Run.{Going}
+use Rattle.lex_run_laws.proofs.Run.{Going, kind_of_spot}
 use Rattle.lex_run_laws.proofs.Single.{at_end, single, sits_told, took_of}
 use Rattle.lex_run_laws.proofs.Slashes.{pattern_there}
 use Rattle.lex_run_laws.proofs.Taken.{Took}
@@ -30,7 +30,7 @@ abbrev More : List ℕ → Context → Turn → List Turn → State → Type 0
 More whole ctx t ts new = (b : State) → Sits whole b (Some (edge_of t.spot)) → Quiet b.tokens.last ts → Turns (Some t.spot.lo) b ts new → Going whole ctx b (Some (edge_of t.spot)) ts
 
 quiet_behind : (s : State) (t : Turn) (ts : List Turn) (new : State) → (k : Took s t.spot new) → is_reread t ts ≡ false → Quiet (last_after k.x.token.kind k.from) ts
-quiet_behind s t ts new k e = subst (λ n. Quiet (last_after n k.from) ts) (spot_kind s t.spot new k) (quiet_after t ts k.from e)
+quiet_behind s t ts new k e = subst (λ n. Quiet (last_after n k.from) ts) (kind_of_spot s t.spot new k) (quiet_after t ts k.from e)
 
 one_turn : (whole : List ℕ) (ctx : Context) (s : State) (last : Option Edge) (lo : Option ℕ) (t : Turn) (ts : List Turn) (new : State) → Sits whole s last → QuietBy s.tokens.last t.again
     → t.spot.token.kind ≢ error_kind → is_reread t ts ≡ false → Turns lo s (t ∷ ts) new → More whole ctx t ts new → Going whole ctx s last (t ∷ ts)
@@ -53,7 +53,7 @@ two_turns whole ctx s last lo t u us new sits quiet n m e h more =
     let sits0 = sits_told whole t.ctx (asked t.again lo) s last sits in
     let k = took_of s0 h.0 t.spot n (never_again s.tokens.last t.again lo s.tokens.end quiet) h.1 in
     let parts = slash_parts t u us e in
-    let slash : is_slash_kind k.x.token.kind ≡ true = ap is_slash_kind (sym (spot_kind s0 t.spot h.0 k)) ∙ parts.0 in
+    let slash : is_slash_kind k.x.token.kind ≡ true = ap is_slash_kind (sym (kind_of_spot s0 t.spot h.0 k)) ∙ parts.0 in
     let p = slash_how s0 t.spot h.0 k slash k.how in
     let next : IsStep (told u.ctx (asked u.again (Some t.spot.lo)) (behind s0 k.line_break k.from k.x k.rest)) (Some u.spot) h.2.0 =
     subst (λ (b : State). IsStep (told u.ctx (asked u.again (Some t.spot.lo)) b) (Some u.spot) h.2.0) k.new_is h.2.1 in

@@ -94,7 +94,7 @@ ending_behind : (ending : Ending) (text rest : List ℕ) → Ends ending text re
 ending_behind BackQuote text rest h = (96 ∷ [], h)
 ending_behind Substitution text rest h = (36 ∷ 123 ∷ [], h)
 
-same_ending : (ending : Ending) (a b r : List ℕ) → Ends ending a r → Ends ending b r → a ≡ b
+pub same_ending : (ending : Ending) (a b r : List ℕ) → Ends ending a r → Ends ending b r → a ≡ b
 same_ending BackQuote a b r h g = h ∙ sym g
 same_ending Substitution a b r h g = h ∙ sym g
 

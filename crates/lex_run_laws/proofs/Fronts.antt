@@ -2,8 +2,9 @@
 use Rattle.std.proofs.Common.{◌≡◌, ◌≢◌, ℕ, inl, inr, ⊎_elim, Bool, true, false, not, ◌&&◌, ◌||◌, List, [], ◌∷◌, ◌++◌, refl, sym, ap, subst, ◌∙◌, arith}
 use Rattle.std.specs.Prelude.{◌==◌}
 use Rattle.std.specs.List.{list_all}
-use Rattle.std.proofs.lemmas.Bool.{cases_Bool, false≢true, and_parts, eqb-true, not-true, or_cases}
+use Rattle.std.proofs.lemmas.Bool.{cases_Bool, false≢true, and_parts, eqb-true, not-true, or_cases, or_parts}
 use Rattle.std.proofs.lemmas.Bool.Decides.{nat_tests}
+use Rattle.base_proofs.proofs.Lists.{cons_head, cons_tail}
 use Rattle.unicode_ident.proofs.Computing.{unicode_ident}
 use Rattle.base_token.specs.declared.token.TokenKind.{TokenKind}
 use Rattle.lex_pieces.specs.Characters.{is_line_terminator, is_white_space, line_terminators, white_space}
@@ -23,7 +24,7 @@ use Rattle.lex_literal.proofs.NumeralLemmas.{numeral_starts}
 use Rattle.lex_token.specs.Lexemes.{SpecLexeme, IsMark, IsOrdinary}
 use Rattle.lex_token.proofs.SortLemmas.{string_begins, word_begins}
 use Rattle.lex_run_laws.proofs.Words.{Parted, is_gap}
-use Rattle.lex_run_laws.proofs.Marks.{among_holds, heads, holds_all, is_lone, is_lone_char, is_some_text, lone_first, some_text, tails}
+use Rattle.lex_run_laws.proofs.Marks.{among_holds, holds_all, is_lone, is_lone_char, is_some_text, lone_first, some_text}
 
 -- ---- what trivia begins with
 
@@ -69,10 +70,6 @@ no_trivia_by goal first text f = (no_piece goal first text f, (λ h. f.block h.0
 leads : ℕ → Bool
 leads c = is_space c || (c == 47 || (c == 60 || c == 45))
 
-or_none : (a b : Bool) → (a || b) ≡ false → (a ≡ false) × (b ≡ false)
-or_none true b e = absurd (false≢true (sym e))
-or_none false b e = (refl, e)
-
 leads_at : (text : List ℕ) (c : ℕ) (cs : List ℕ) → begins leads text ≡ false → leads c ≡ true → text ≡ c ∷ cs → ⊥
 leads_at text c cs f h e = false≢true (sym f ∙ ap (begins leads) e ∙ h)
 
@@ -85,7 +82,7 @@ mark_leads text f HtmlClose inner e = leads_at text 45 (45 ∷ 62 ∷ inner) f r
 space_leads : (text : List ℕ) → begins leads text ≡ false → begins is_space text ≡ false
 unfolding leads
 space_leads [] f = refl
-space_leads (c ∷ cs) f = (or_none (is_space c) (c == 47 || (c == 60 || c == 45)) f).0
+space_leads (c ∷ cs) f = (or_parts (is_space c) (c == 47 || (c == 60 || c == 45)) f).0
 
 free_by : (text : List ℕ) → begins leads text ≡ false → Free text
 unfolding leads is_space
@@ -97,18 +94,18 @@ free_by text f = record {
 
 -- ---- words and literals
 
-no_opening : ℕ → Bool
+pub no_opening : ℕ → Bool
 no_opening c = not (is_opening c)
 
-white_no_opening : list_all no_opening white_space ≡ true
+pub white_no_opening : list_all no_opening white_space ≡ true
 unfolding unicode_ident no_opening
 white_no_opening = refl
 
-terminators_no_opening : list_all no_opening line_terminators ≡ true
+pub terminators_no_opening : list_all no_opening line_terminators ≡ true
 unfolding unicode_ident no_opening
 terminators_no_opening = refl
 
-slash_no_opening : is_opening 47 ≡ false
+pub slash_no_opening : is_opening 47 ≡ false
 unfolding unicode_ident
 slash_no_opening = refl
 
@@ -202,12 +199,12 @@ unfolding fronts
 stands_front [] s r inner n p e = refl
 stands_front (m ∷ ms) [] [] inner n p e = absurd (let k : [] ≡ m ∷ (ms ++ inner) = e in cc)
 stands_front (m ∷ ms) [] (c ∷ cs) inner n p e =
-    let same = heads c m cs (ms ++ inner) e in
+    let same = cons_head c m cs (ms ++ inner) e in
     let free : is_gap m ≡ false = not-true (is_gap m) (and_parts (not (is_gap m)) (list_all (λ c. not (is_gap c)) ms) n).0 in
     absurd (false≢true (sym free ∙ ap is_gap (sym same) ∙ p))
 stands_front (m ∷ ms) (c ∷ cs) r inner n p e =
-    let k = stands_front ms cs r inner (and_parts (not (is_gap m)) (list_all (λ c. not (is_gap c)) ms) n).1 p (tails c m (cs ++ r) (ms ++ inner) e) in
-    ap (λ b. b && fronts ms cs) (same_eq c m (heads c m (cs ++ r) (ms ++ inner) e)) ∙ k
+    let k = stands_front ms cs r inner (and_parts (not (is_gap m)) (list_all (λ c. not (is_gap c)) ms) n).1 p (cons_tail c m (cs ++ r) (ms ++ inner) e) in
+    ap (λ b. b && fronts ms cs) (same_eq c m (cons_head c m (cs ++ r) (ms ++ inner) e)) ∙ k
 
 begins_front : (q : ℕ → Bool) (s r : List ℕ) → s ≢ [] → begins q s ≡ false → begins q (s ++ r) ≡ false
 begins_front q [] r n e = absurd (n refl)
@@ -267,13 +264,13 @@ lone_free text x rest h n = let l = lone_first text x rest h n in free_by text (
 
 -- a slash that opens no comment
 slash_block : (inner more : List ℕ) → Ends is_comment_mark inner → 47 ∷ inner ≢ 47 ∷ 42 ∷ more
-slash_block inner more h e = let k = tails 47 47 inner (42 ∷ more) e in let f : Ends is_comment_mark (42 ∷ more) = subst (Ends is_comment_mark) k h in false≢true (sym f)
+slash_block inner more h e = let k = cons_tail 47 47 inner (42 ∷ more) e in let f : Ends is_comment_mark (42 ∷ more) = subst (Ends is_comment_mark) k h in false≢true (sym f)
 
 slash_mark : (inner : List ℕ) → Ends is_comment_mark inner → (mark : LineMark) (more : List ℕ) → 47 ∷ inner ≢ spelled mark ++ more
 slash_mark inner h Slashes more e =
-    let k = tails 47 47 inner (47 ∷ more) e in let f : Ends is_comment_mark (47 ∷ more) = subst (Ends is_comment_mark) k h in false≢true (sym f)
-slash_mark inner h HtmlOpen more e = let k = heads 47 60 inner (33 ∷ 45 ∷ 45 ∷ more) e in omega (arith, k)
-slash_mark inner h HtmlClose more e = let k = heads 47 45 inner (45 ∷ 62 ∷ more) e in omega (arith, k)
+    let k = cons_tail 47 47 inner (47 ∷ more) e in let f : Ends is_comment_mark (47 ∷ more) = subst (Ends is_comment_mark) k h in false≢true (sym f)
+slash_mark inner h HtmlOpen more e = let k = cons_head 47 60 inner (33 ∷ 45 ∷ 45 ∷ more) e in omega (arith, k)
+slash_mark inner h HtmlClose more e = let k = cons_head 47 45 inner (45 ∷ 62 ∷ more) e in omega (arith, k)
 
 slash_by : (inner : List ℕ) → Ends is_comment_mark inner → Free (47 ∷ inner)
 unfolding is_space

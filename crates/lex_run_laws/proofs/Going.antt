@@ -2,8 +2,7 @@
 use Rattle.std.proofs.Common.{◌≡◌, ◌≢◌, ℕ, ◌+◌, ◌⊎◌, inl, inr, ⊎_elim, Bool, true, false, cond, ◌&&◌, ◌||◌, List, [], ◌∷◌, ◌++◌, length, Option, Some, None, refl, sym, ap, subst, ◌∙◌, arith, nat_eq}
 use Rattle.std.specs.Prelude.{◌==◌}
 use Rattle.std.specs.List.{list_any}
-use Rattle.std.proofs.lemmas.Bool.{cases_Bool, false≢true, and_parts}
-use Rattle.std.proofs.lemmas.Bool.Decides.{nat_tests}
+use Rattle.std.proofs.lemmas.Bool.{cases_Bool, false≢true, and_parts, eqb-true}
 use Rattle.base_token.specs.Kinds.{hash_kind, template_kind}
 use Rattle.base_token.specs.Tokens.{Spot}
 use Rattle.lex_source.specs.declared.contexts.TokenContext.{TokenContext}
@@ -334,15 +333,12 @@ no_pieces goal first (p ∷ ps) text rest h e =
     let c = ap length e in
     absurd (omega (arith, a, b, c))
 
-eq_of : (a b : ℕ) → nat_eq a b ≡ true → a ≡ b
-eq_of a b e = grind (arith, nat_tests)
-
 pub unbroken : (whole before gone from : List ℕ) (end : ℕ) (text : List ℕ) (goal : Goal) (first line_break : Bool) → whole ≡ before ++ text → text ≡ gone ++ from → end ≡ 1 + bytes whole
     → IsSkipped goal first text line_break from → nat_eq (place end text) (place end from) ≡ true → line_break ≡ false
 unbroken whole before gone from end text goal first line_break w g e h n =
     let a = ap bytes w ∙ bytes_append before text in
     let b = ap bytes g ∙ bytes_append gone from in
-    let same = eq_of (place end text) (place end from) n in
+    let same = eqb-true (place end text) (place end from) n in
     let none = no_bytes gone (omega (arith, a, b, e, same)) in
     h.2 ∙ no_pieces goal first h.0 text from h.1.0 (g ∙ ap (λ (l : List ℕ). l ++ from) none)
 

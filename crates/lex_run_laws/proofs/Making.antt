@@ -27,7 +27,7 @@ use Rattle.lex_run_laws.proofs.Slashes.{characters_before, hashbang_before}
 use Rattle.lex_run_laws.proofs.Owns.{bytes_append, own_is}
 use Rattle.lex_run_laws.proofs.Taken.{Bang, Ending as Ended, How, Tail, Took}
 use Rattle.lex_run_laws.proofs.Going.{EdgeOf, behind_no_start, Sits, behind_characters, same_goal, start_no_end, gap_end, gap_tail, first_none, start_there}
-use Rattle.lex_run_laws.proofs.Run.{Breaks, Canon, Fits, inside, plain_again}
+use Rattle.lex_run_laws.proofs.Run.{Breaks, Canon, Fits, inside, plain_again, kind_of_spot}
 
 -- ---- each way of taking a token
 
@@ -57,9 +57,6 @@ FitsBehind s spot new k r = Fits (template_goal (contexts_after k.x.token.kind s
 abbrev pub BreaksBehind : (s : State) (spot : Spot) (new : State) → Took s spot new → List ℕ → Type 0
 BreaksBehind s spot new k r = Breaks (behind s k.line_break k.from k.x k.rest) (Some (edge_of spot)) r
 
-pub spot_kind : (s : State) (spot : Spot) (new : State) → (k : Took s spot new) → spot.token.kind ≡ k.x.token.kind
-spot_kind s spot new k = ap (λ (p : Spot). p.token.kind) k.spot_is
-
 same_mark : (s : State) (last : Option Edge) (spot : Spot) (a b : Bool) (x : SpecLexeme) (own r : List ℕ) → b ≡ a → Canon s last spot a x own r → Canon s last spot b x own r
 same_mark s last spot a b x own r e c = subst (λ m. Canon s last spot m x own r) (sym e) c
 
@@ -69,7 +66,7 @@ tail_again s last spot new k h r f =
     let kind = characters_kind k.from k.x k.rest h.is in
     let g = subst (λ o. Fits o (Some (edge_of spot)) r) (behind_tail k.x.token.kind k.from s.settings.contexts s.tokens.last kind h.goal) f in
     let is = characters_before k.from k.own k.x k.rest r g.1 g.0 k.cut g.2 h.is in
-    let same : (spot.token.kind == template_kind) ≡ true = ap (λ n. n == template_kind) (spot_kind s spot new k ∙ kind) in
+    let same : (spot.token.kind == template_kind) ≡ true = ap (λ n. n == template_kind) (kind_of_spot s spot new k ∙ kind) in
     same_mark s last spot false k.line_break k.x k.own r h.mark (inside TemplateTail s last spot k.x k.own r h.goal (gap_tail last spot same) tt is)
 
 gap_at_end : (whole : List ℕ) (s : State) (last : Option Edge) (spot : Spot) → Sits whole s last → template_goal s.settings.contexts s.tokens.last ≡ Some TemplateEnd → gap last spot ≡ []
@@ -90,7 +87,7 @@ bang_again : (s : State) (last : Option Edge) (spot : Spot) (new : State) → (k
 bang_again s (Some e) spot new k edge h r b = absurd (behind_no_start s e edge h.start)
 bang_again s None spot new k edge h r b =
     let kind : k.x.token.kind ≡ shebang_kind = ap (λ (l : SpecLexeme). l.token.kind) h.token in
-    let same : spot.token.kind ≡ shebang_kind = spot_kind s spot new k ∙ kind in
+    let same : spot.token.kind ≡ shebang_kind = kind_of_spot s spot new k ∙ kind in
     let goal : template_goal (contexts_after k.x.token.kind s.settings.contexts) (last_after k.x.token.kind k.from) ≡ None =
     ap (λ n. template_goal (contexts_after n s.settings.contexts) (last_after n k.from)) kind ∙ bang_contexts s.settings.contexts s.tokens.last k.from h.goal in
     let ends = b (ap (λ n. n == template_kind) same) (ap (λ n. n == hash_kind) same) goal h.is.2.2 in
@@ -152,8 +149,8 @@ sits_behind whole s last spot new sits k = record {
     kind = k.x.token.kind;
     from = k.from;
     last = refl;
-    template = ap (λ n. n == template_kind) (spot_kind s spot new k);
-    hash = ap (λ n. n == hash_kind) (spot_kind s spot new k);
+    template = ap (λ n. n == template_kind) (kind_of_spot s spot new k);
+    hash = ap (λ n. n == hash_kind) (kind_of_spot s spot new k);
     end = ap (λ (p : Spot). p.hi) k.spot_is;
     tail = λ e. tail_by s spot new k k.how e;
   };

@@ -3,6 +3,7 @@ use Rattle.std.proofs.Common.{◌≡◌, ℕ, ◌≤◌, inl, inr, ⊎_elim, Boo
 use Rattle.std.specs.Prelude.{◌==◌}
 use Rattle.std.specs.List.{list_all}
 use Rattle.std.proofs.lemmas.Bool.{false≢true, eqb-true, and_parts, not-true, or_cases}
+use Rattle.base_proofs.proofs.Lists.{cons_head, cons_tail}
 use Rattle.unicode_ident.proofs.Computing.{unicode_ident}
 use Rattle.base_token.specs.Kinds.{back_quote_kind, hash_kind, right_brace_kind}
 use Rattle.base_token.specs.declared.token.TokenKind.{TokenKind}
@@ -110,12 +111,6 @@ no_further (c ∷ s) (o ∷ os) r more e p n =
     let k = no_further s os r more tail p (and_parts (not (is_gap o)) (list_all (λ c. not (is_gap c)) os) n).1 in
     omega (arith, k)
 
-pub heads : (a b : ℕ) (xs ys : List ℕ) → a ∷ xs ≡ b ∷ ys → a ≡ b
-heads a b xs ys e = cc
-
-pub tails : (a b : ℕ) (xs ys : List ℕ) → a ∷ xs ≡ b ∷ ys → xs ≡ ys
-tails a b xs ys e = cc
-
 digit_gap : (d : ℕ) → is_gap d ≡ true → is_decimal_digit d ≡ true → ⊥
 digit_gap d g e = ⊎_elim
     (λ (t : (d == 10) ≡ true). false≢true (sym (ap is_decimal_digit (eqb-true d 10 t)) ∙ e))
@@ -124,14 +119,14 @@ digit_gap d g e = ⊎_elim
 
 no_dot : (s rest r : List ℕ) (k : TokenKind) → IsAmong punctuators s k → (IsNumberDot (s ++ rest) → ⊥) → Parted r → IsNumberDot (s ++ r) → ⊥
 no_dot [] rest r k h n p d = false≢true (some_text [] k h)
-no_dot (c ∷ []) rest [] k h n p d = let e = tails c 46 [] (d.0 ∷ d.1) d.2 in let f : [] ≡ d.0 ∷ d.1 = e in cc
+no_dot (c ∷ []) rest [] k h n p d = let e = cons_tail c 46 [] (d.0 ∷ d.1) d.2 in let f : [] ≡ d.0 ∷ d.1 = e in cc
 no_dot (c ∷ []) rest (x ∷ xs) k h n p d =
-    let e = tails c 46 (x ∷ xs) (d.0 ∷ d.1) d.2 in
-    digit_gap d.0 (ap is_gap (sym (heads x d.0 xs d.1 e)) ∙ p) d.3
+    let e = cons_tail c 46 (x ∷ xs) (d.0 ∷ d.1) d.2 in
+    digit_gap d.0 (ap is_gap (sym (cons_head x d.0 xs d.1 e)) ∙ p) d.3
 no_dot (c ∷ c2 ∷ cs) rest r k h n p d =
-    let e = tails c 46 (c2 ∷ (cs ++ r)) (d.0 ∷ d.1) d.2 in
-    let first = heads c 46 (c2 ∷ (cs ++ r)) (d.0 ∷ d.1) d.2 in
-    let second = heads c2 d.0 (cs ++ r) d.1 e in
+    let e = cons_tail c 46 (c2 ∷ (cs ++ r)) (d.0 ∷ d.1) d.2 in
+    let first = cons_head c 46 (c2 ∷ (cs ++ r)) (d.0 ∷ d.1) d.2 in
+    let second = cons_head c2 d.0 (cs ++ r) d.1 e in
     n (d.0, cs ++ rest, ap (λ a. a ∷ c2 ∷ (cs ++ rest)) first ∙ ap (λ b. 46 ∷ b ∷ (cs ++ rest)) second, d.3)
 
 pub mark_before : (text own : List ℕ) (x : SpecLexeme) (rest r : List ℕ) → text ≡ own ++ rest → Parted r → IsMark text x rest → IsMark (own ++ r) x r
@@ -188,16 +183,16 @@ short_by [] kind c r more e l f = omega arith
 short_by (d ∷ []) kind c r more e l f = omega arith
 short_by (d ∷ d2 ∷ ds) kind c r more e l f =
     let free = not-true (is_lone_char d) (and_parts (not (is_lone_char d)) (not (is_lone kind)) e).0 in
-    absurd (false≢true (sym free ∙ ap is_lone_char (sym (heads c d r (d2 ∷ (ds ++ more)) f)) ∙ l))
+    absurd (false≢true (sym free ∙ ap is_lone_char (sym (cons_head c d r (d2 ∷ (ds ++ more)) f)) ∙ l))
 
 -- what follows a punctuator that begins so
 rest_by : (s : List ℕ) (kind c : ℕ) (r more : List ℕ) → single s kind ≡ true → is_lone_char c ≡ true → c ∷ r ≡ s ++ more → more ≡ r
 unfolding single
 rest_by [] kind c r more e l f = absurd (false≢true e)
-rest_by (d ∷ []) kind c r more e l f = sym (tails c d r more f)
+rest_by (d ∷ []) kind c r more e l f = sym (cons_tail c d r more f)
 rest_by (d ∷ d2 ∷ ds) kind c r more e l f =
     let free = not-true (is_lone_char d) (and_parts (not (is_lone_char d)) (not (is_lone kind)) e).0 in
-    absurd (false≢true (sym free ∙ ap is_lone_char (sym (heads c d r (d2 ∷ (ds ++ more)) f)) ∙ l))
+    absurd (false≢true (sym free ∙ ap is_lone_char (sym (cons_head c d r (d2 ∷ (ds ++ more)) f)) ∙ l))
 
 is_hash_char : ℕ → Bool
 is_hash_char c = c == 35
@@ -227,7 +222,7 @@ hash_is text x rest inner h e =
 
 lone_dot : (c : ℕ) (r : List ℕ) → is_lone_char c ≡ true → IsNumberDot (c ∷ r) → ⊥
 unfolding is_lone_char
-lone_dot c r l d = false≢true (ap is_lone_char (sym (heads c 46 r (d.0 ∷ d.1) d.2)) ∙ l)
+lone_dot c r l d = false≢true (ap is_lone_char (sym (cons_head c 46 r (d.0 ∷ d.1) d.2)) ∙ l)
 
 -- such a punctuator begins with such a character
 pub lone_first : (text : List ℕ) (x : SpecLexeme) (rest : List ℕ) → IsMark text x rest → is_lone x.token.kind ≡ true

@@ -3,10 +3,10 @@ use Rattle.std.proofs.Common.{◌≡◌, ◌≢◌, ℕ, ◌+◌, inl, inr, ⊎_
 use Rattle.std.specs.Prelude.{◌==◌, encode_utf8_all}
 use Rattle.std.proofs.lemmas.Bool.{cases_Bool, false≢true, and_parts}
 use Rattle.std.proofs.lemmas.Bool.Decides.{nat_tests}
+use Rattle.base_proofs.proofs.Lists.{cons_head}
 use Rattle.base_token.specs.declared.context.Context.{Context}
 use Rattle.base_token.specs.Kinds.{back_quote_kind, dollar_brace_kind, error_kind, hash_kind, regex_kind, right_brace_kind, template_kind}
 use Rattle.lex_source.specs.declared.contexts.TokenContext.{TokenContext}
-use Rattle.unicode_ident.proofs.Computing.{unicode_ident}
 use Rattle.lex_pieces.specs.Names.{is_opening}
 use Rattle.lex_literal.specs.Escapes.{begins}
 use Rattle.base_token.specs.Tokens.{SpecToken, Spot}
@@ -26,8 +26,7 @@ use Rattle.lex_source.specs.Canonical.Moved.{moved_to}
 use Rattle.lex_run_laws.specs.Turns.{Turn, Turns, asked, begin_at, end_at, is_reread, is_slash_kind, kept, moved_behind, told}
 use Rattle.lex_run_laws.proofs.Taken.{How, Plain, Took, read_token}
 use Rattle.lex_run_laws.proofs.Words.{Parted}
-use Rattle.lex_run_laws.proofs.Fronts.{Free}
-use Rattle.lex_run_laws.proofs.Marks.{heads}
+use Rattle.lex_run_laws.proofs.Fronts.{Free, slash_no_opening}
 use Rattle.lex_run_laws.proofs.Owns.{own_is}
 use Rattle.lex_run_laws.proofs.Slashes.{reread}
 use Rattle.lex_run_laws.proofs.Standing.{no_template, no_tpl, slash_plain, word_opens}
@@ -35,10 +34,6 @@ use Rattle.lex_run_laws.proofs.Single.{breaks_told, moved_more, sits_told, text_
 use Rattle.lex_run_laws.proofs.Going.{QuietBy, Same, Sits, going_on, make_step, never_again, quiet_same, same_after}
 use Rattle.lex_run_laws.proofs.Run.{Breaks, Fits, Going, breaks_plain, fits_plain, gap_here, gap_no_bang, plain_canon}
 use Rattle.lex_run_laws.proofs.Making.{characters_kind, moved_spot, placed}
-
-opening_47 : is_opening 47 ≡ false
-unfolding unicode_ident
-opening_47 = refl
 
 ending_no_slash : (ending : Ending) → is_slash_kind (ending_kind ending) ≡ false
 ending_no_slash BackQuote = refl
@@ -98,7 +93,7 @@ slash_contexts kind cs e =
 no_word_kind : (text : List ℕ) (x : SpecLexeme) (rest inner : List ℕ) → IsLexeme Div text x rest → text ≡ 47 ∷ inner → is_word (machine.told x.token).content ≡ false
 no_word_kind text x rest inner h e = ⊎_elim
     (λ (w : is_word (machine.told x.token).content ≡ true).
-    absurd (false≢true (sym opening_47 ∙ sym (ap (begins is_opening) e) ∙ word_opens text x rest h w)))
+    absurd (false≢true (sym slash_no_opening ∙ sym (ap (begins is_opening) e) ∙ word_opens text x rest h w)))
     (λ (w : is_word (machine.told x.token).content ≡ false). w)
     (cases_Bool (is_word (machine.told x.token).content))
 
@@ -202,7 +197,7 @@ moved_pair source at last t ts e p s new h =
     subst (λ (b : Bool). Turns p s (cond b (moved_behind source at last ts) (moved_behind source (end_at source at last t.spot) (Some (edge_of t.spot)) ts)) new) (sym e) h
 
 slash_bang : (text inner : List ℕ) → text ≡ 47 ∷ inner → NoHashbang text
-slash_bang text inner e more f = let j = heads 47 35 inner (33 ∷ more) (sym e ∙ f) in omega (arith, j)
+slash_bang text inner e more f = let j = cons_head 47 35 inner (33 ∷ more) (sym e ∙ f) in omega (arith, j)
 
 -- Two turns, of which the second reads the slash again.
 pub pair : (whole : List ℕ) (ctx : Context) (s : State) (last : Option Edge) (lo : Option ℕ) (t u : Turn) (us : List Turn) (one new : State) → Sits whole s last → QuietBy s.tokens.last t.again

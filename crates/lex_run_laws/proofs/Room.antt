@@ -128,7 +128,7 @@ after_tail : (kind : ℕ) (from : List ℕ) (cs : List TokenContext) (n : ℕ) �
     → room_by (last_after kind from) (template_goal (contexts_after kind cs) (last_after kind from)) n ≡ 2 * n
 after_tail kind from cs n e = rw e (behind_characters cs n)
 
-characters_kind : (text : List ℕ) (x : SpecLexeme) (rest : List ℕ) → IsCharacters text x rest → x.token.kind ≡ template_kind
+pub characters_kind : (text : List ℕ) (x : SpecLexeme) (rest : List ℕ) → IsCharacters text x rest → x.token.kind ≡ template_kind
 characters_kind text x rest h = ap (λ (l : SpecLexeme). l.token.kind) h.6
 
 tail_room : (s new : State) (spot : Spot) → s.tokens.last ≢ Fault → template_goal s.settings.contexts s.tokens.last ≡ Some TemplateTail

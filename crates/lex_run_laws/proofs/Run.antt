@@ -3,6 +3,7 @@ use Rattle.std.proofs.Common.{◌≡◌, ℕ, ◌≤◌, ◌⊎◌, inl, inr, �
 use Rattle.std.specs.Prelude.{◌==◌, encode_utf8_all}
 use Rattle.std.specs.List.{list_any}
 use Rattle.std.proofs.lemmas.Bool.{cases_Bool, false≢true, eqb-true}
+use Rattle.base_proofs.proofs.Lists.{cons_head}
 use Rattle.unicode_ident.proofs.Computing.{unicode_ident}
 use Rattle.base_token.specs.declared.context.Context.{Context}
 use Rattle.base_token.specs.Kinds.{back_quote_kind, hash_kind, right_brace_kind, template_kind}
@@ -37,7 +38,7 @@ use Rattle.lex_run_laws.specs.Turns.{Turn, Turns, kept, moved_behind, told}
 use Rattle.lex_run_laws.proofs.Words.{Parted}
 use Rattle.lex_run_laws.proofs.Fronts.{Free}
 use Rattle.lex_run_laws.proofs.Standing.{MayStandBefore, no_inner, no_template, no_tpl, none_after, stands_before, word_opens}
-use Rattle.lex_run_laws.proofs.Marks.{hash_is, heads, is_lone}
+use Rattle.lex_run_laws.proofs.Marks.{hash_is, is_lone}
 use Rattle.lex_run_laws.proofs.Taken.{Plain, Took}
 use Rattle.lex_run_laws.proofs.Going.{GapIs, Same, Sits, both_start, gap_behind, gap_none, no_characters, plain_going, same_goal, skips, unbroken}
 
@@ -153,8 +154,8 @@ no_bang text x r cs l m e h g fits inner same =
 
 pub gap_no_bang : (last : Option Edge) (spot : Spot) (line_break : Bool) (r : List ℕ) → GapIs last spot line_break → NoHashbang r → NoHashbang (gap last spot ++ r)
 gap_no_bang last spot line_break r (inl h) n inner e = n inner (sym (ap (λ (l : List ℕ). l ++ r) h.0) ∙ e)
-gap_no_bang last spot line_break r (inr (inl h)) n inner e = let k : 10 ∷ r ≡ 35 ∷ 33 ∷ inner = sym (ap (λ (l : List ℕ). l ++ r) h.0) ∙ e in let j = heads 10 35 r (33 ∷ inner) k in omega (arith, j)
-gap_no_bang last spot line_break r (inr (inr h)) n inner e = let k : 32 ∷ r ≡ 35 ∷ 33 ∷ inner = sym (ap (λ (l : List ℕ). l ++ r) h.0) ∙ e in let j = heads 32 35 r (33 ∷ inner) k in omega (arith, j)
+gap_no_bang last spot line_break r (inr (inl h)) n inner e = let k : 10 ∷ r ≡ 35 ∷ 33 ∷ inner = sym (ap (λ (l : List ℕ). l ++ r) h.0) ∙ e in let j = cons_head 10 35 r (33 ∷ inner) k in omega (arith, j)
+gap_no_bang last spot line_break r (inr (inr h)) n inner e = let k : 32 ∷ r ≡ 35 ∷ 33 ∷ inner = sym (ap (λ (l : List ℕ). l ++ r) h.0) ∙ e in let j = cons_head 32 35 r (33 ∷ inner) k in omega (arith, j)
 
 -- ---- where a line ends
 
@@ -186,7 +187,7 @@ skip_breaks goal first line_break (c ∷ cs) rest h e = by_pieces h.0 h.1.0 h.1.
 
 -- ---- a token outside of templates
 
-kind_of_spot : (s : State) (spot : Spot) (new : State) → (k : Took s spot new) → spot.token.kind ≡ k.x.token.kind
+pub kind_of_spot : (s : State) (spot : Spot) (new : State) → (k : Took s spot new) → spot.token.kind ≡ k.x.token.kind
 kind_of_spot s spot new k = ap (λ (p : Spot). p.token.kind) k.spot_is
 
 pub gap_here : (whole : List ℕ) (s : State) (last : Option Edge) (spot : Spot) (new : State) → Sits whole s last → (k : Took s spot new) → (p : Plain s k.line_break k.from k.x k.rest)

@@ -2,7 +2,6 @@
 use Rattle.std.proofs.Common.{◌≡◌, ℕ, inl, inr, ⊎_elim, true, false, cond, List, [], ◌∷◌, ◌++◌, Some, refl, sym, ap, subst, ◌∙◌}
 use Rattle.std.specs.Prelude.{◌==◌}
 use Rattle.std.proofs.lemmas.Bool.{cases_Bool, false≢true}
-use Rattle.unicode_ident.proofs.Computing.{unicode_ident}
 use Rattle.base_token.specs.Tokens.{bare}
 use Rattle.base_token.specs.TokenViews.{token_kind_number}
 use Rattle.base_token.specs.declared.operator.AssignOp.TheVariants as a
@@ -10,14 +9,12 @@ use Rattle.base_token.specs.declared.operator.BinOpToken.TheVariants as b
 use Rattle.base_token.specs.declared.token.TokenKind.{TokenKind}
 use Rattle.base_token.specs.declared.token.TokenKind.TheVariants.{AssignOp, BinOp}
 use Rattle.lex_pieces.specs.Classes.{is_line_char}
-use Rattle.lex_pieces.specs.Names.{is_opening}
 use Rattle.lex_pieces.specs.Punctuators.{read_punctuator}
 use Rattle.lex_pieces.specs.Runs.{Ends as RunEnds}
 use Rattle.lex_pieces.specs.Trivia.{IsHashbang}
 use Rattle.lex_pieces.proofs.Longest.{is_read, reads}
 use Rattle.lex_pieces.proofs.RegExpLemmas.{open_slash}
 use Rattle.lex_literal.specs.declared.template.Ending.{Ending}
-use Rattle.lex_literal.specs.declared.template.Ending.TheVariants.{BackQuote, Substitution}
 use Rattle.lex_literal.specs.Templates.{Ends, SpellsPiece}
 use Rattle.lex_literal.proofs.NumeralLemmas.{numeral_starts}
 use Rattle.lex_literal.proofs.TaggedLemmas.{tagged_is_read}
@@ -29,13 +26,10 @@ use Rattle.lex_step_laws.proofs.Bounds.{no_slash}
 use Rattle.lex_run_laws.specs.Turns.{is_slash_kind}
 use Rattle.lex_run_laws.proofs.Words.{Parted, same_own}
 use Rattle.lex_run_laws.proofs.Marks.{reg_exp_before}
-use Rattle.lex_run_laws.proofs.Fronts.{Free, slash_free}
+use Rattle.lex_run_laws.proofs.Fronts.{Free, slash_free, slash_no_opening}
+use Rattle.lex_run_laws.proofs.Behind.{same_ending}
 
 -- ---- templates and hashbangs
-
-same_ending : (ending : Ending) (m n r : List ℕ) → Ends ending m r → Ends ending n r → m ≡ n
-same_ending BackQuote m n r h g = h ∙ sym g
-same_ending Substitution m n r h g = h ∙ sym g
 
 pub characters_before : (text own : List ℕ) (x : SpecLexeme) (rest after more : List ℕ) (f : Ending) → text ≡ own ++ rest → Ends f after more → IsCharacters text x rest
     → IsCharacters (own ++ after) x after
@@ -99,12 +93,8 @@ slash_at d ds es x rest h = ⊎_elim
 
 -- ---- a slash that is read again
 
-opening_47 : is_opening 47 ≡ false
-unfolding unicode_ident
-opening_47 = refl
-
 mark_there : (inner : List ℕ) (x : SpecLexeme) (rest : List ℕ) → IsOutside Div (47 ∷ inner) x rest → IsMark (47 ∷ inner) x rest
-mark_there inner x rest (inl (inl h)) = absurd (false≢true (sym opening_47 ∙ word_begins (47 ∷ inner) h.0 rest h.2))
+mark_there inner x rest (inl (inl h)) = absurd (false≢true (sym slash_no_opening ∙ word_begins (47 ∷ inner) h.0 rest h.2))
 mark_there inner x rest (inl (inr (inl h))) = absurd (false≢true (numeral_starts h.0 h.1 (47 ∷ inner) rest h.2))
 mark_there inner x rest (inl (inr (inr h))) = absurd (false≢true (string_begins h.0 h.2 (47 ∷ inner) rest h.3))
 mark_there inner x rest (inr (inl h)) = absurd (false≢true h.0)

@@ -1,7 +1,7 @@
 -- The kinds of tokens outside of templates, and what stands before other text of these.
 use Rattle.std.proofs.Common.{◌≡◌, ℕ, ◌<◌, ◌⊎◌, inl, inr, ⊎_elim, Bool, true, false, not, ◌||◌, List, [], ◌∷◌, ◌++◌, Some, None, refl, sym, ap, subst, ◌∙◌, arith}
 use Rattle.std.specs.Prelude.{◌==◌, encode_utf8_all}
-use Rattle.std.proofs.lemmas.Bool.{cases_Bool, false≢true, not-true}
+use Rattle.std.proofs.lemmas.Bool.{cases_Bool, false≢true, not-true, or_parts}
 use Rattle.std.proofs.lemmas.Bool.Decides.{nat_tests}
 use Rattle.base_token.specs.Kinds.{back_quote_kind, dollar_brace_kind, hash_kind, left_brace_kind, right_brace_kind, template_kind}
 use Rattle.base_token.specs.TokenViews.{token_kind_number}
@@ -52,12 +52,8 @@ no_inner goal text x rest (inr (inr h)) =
     ap (λ (l : SpecLexeme). is_inner_kind l.token.kind) h.1.2
     ∙ not-true (is_inner_kind (token_kind_number h.1.0)) (among_holds (λ s k. not (is_inner_kind k)) punctuators h.1.1.1.0 h.1.0 marks_no_inner h.1.1.1.1)
 
-or_none : (a b : Bool) → (a || b) ≡ false → (a ≡ false) × (b ≡ false)
-or_none true b e = absurd (false≢true (sym e))
-or_none false b e = (refl, e)
-
 pub no_template : (kind : ℕ) → is_inner_kind kind ≡ false → (kind == template_kind) ≡ false
-no_template kind e = (or_none (kind == template_kind) (kind == dollar_brace_kind) e).0
+no_template kind e = (or_parts (kind == template_kind) (kind == dollar_brace_kind) e).0
 
 -- ---- whether a word or a lone punctuator stands there
 
@@ -136,7 +132,7 @@ no_tpl (t.Tpl ∷ cs) l m e = absurd (tpl l e)
 no_tpl (t.FnExpr ∷ cs) l m e = refl
 no_tpl (t.ClassExpr ∷ cs) l m e = refl
 
-opened_none : (cs : List TokenContext) (m : Last) → template_goal (opened cs) m ≡ None
+pub opened_none : (cs : List TokenContext) (m : Last) → template_goal (opened cs) m ≡ None
 opened_none [] m = refl
 opened_none (c ∷ cs) m = refl
 
@@ -144,9 +140,9 @@ opened_none (c ∷ cs) m = refl
 pub none_after : (kind : ℕ) (cs : List TokenContext) (l m : Last) → template_goal cs l ≡ None → is_inner_kind kind ≡ false → is_lone kind ≡ false
     → template_goal (contexts_after kind cs) m ≡ None
 none_after kind cs l m e i n =
-    let inner = or_none (kind == template_kind) (kind == dollar_brace_kind) i in
-    let lone = or_none (kind == hash_kind) (kind == back_quote_kind || kind == right_brace_kind) n in
-    let lone2 = or_none (kind == back_quote_kind) (kind == right_brace_kind) lone.1 in
+    let inner = or_parts (kind == template_kind) (kind == dollar_brace_kind) i in
+    let lone = or_parts (kind == hash_kind) (kind == back_quote_kind || kind == right_brace_kind) n in
+    let lone2 = or_parts (kind == back_quote_kind) (kind == right_brace_kind) lone.1 in
     ⊎_elim
     (λ (b : (kind == left_brace_kind) ≡ true). rw b (opened_none cs m))
     (λ (b : (kind == left_brace_kind) ≡ false). rw b (rw lone2.1 (rw lone2.0 (rw inner.1 (no_tpl cs l m e)))))

@@ -1,6 +1,7 @@
 -- Parameters without their parentheses are read one token ahead: what is read of a front is read of it before another rest that begins with the same token.
 use Rattle.std.proofs.Common.{◌≡◌, ◌<◌, ℕ, zero, suc, Bool, true, false, not, ◌&&◌, cond, eqb, nat_lt, List, [], ◌∷◌, ◌++◌, length, append_assoc, append-nil, Result, Ok, Err, inl, inr, ◌⊎◌, refl, sym, ap, ◌∙◌, subst, true≢false, arith}
 use Rattle.std.proofs.lemmas.Bool.{eqb-true, and_parts, not-true, lt-ltb}
+use Rattle.base_proofs.proofs.Bools.{cond_second, cond_first}
 use Rattle.base_token.specs.declared.place.Span.{Span}
 use Rattle.base_token.specs.Kinds.{comma_kind, dot_dot_dot_kind, assign_kind}
 use Rattle.tree_spec.specs.Tree.{Tree, Trees, none, more, unpack, param, rest_pat, assign_pat}
@@ -8,7 +9,7 @@ use Rattle.grammar_spec.specs.Tokens.Input.{PlacedToken, Input, Code, kind, kind
 use Rattle.grammar_spec.specs.Tokens.Operators.{may_name, assignment_level}
 use Rattle.grammar_spec.specs.Tokens.Shape.{is_binding, is_param, is_rest, last_tree}
 use Rattle.grammar_spec.specs.Grammar.{Produces}
-use Rattle.grammar_spec.specs.Reader.Source.{Fault, ◌>>=◌, State, Inner, past, bound, at, spanned, Step, go_on, finished, next_by, iterate_n}
+use Rattle.grammar_spec.specs.Reader.Source.{Fault, ◌>>=◌, State, past, bound, at, spanned, Step, go_on, finished, next_by, iterate_n}
 use Rattle.grammar_spec.specs.Reader.Expressions.{parameter_by, is_rest_param}
 use Rattle.grammar_spec.specs.Reader.Reading.{readers}
 use Rattle.grammar_laws.specs.CompleteBase.Laws.{coded}
@@ -16,6 +17,7 @@ use Rattle.grammar_laws.proofs.Sure.{lm, Sure}
 use Rattle.grammar_laws.proofs.ByDepth.{all_sound}
 use Rattle.grammar_laws.proofs.Functions.{GotParam, parameter_sure}
 use Rattle.grammar_laws.proofs.SoundLemmas.{patterns_sound}
+use Rattle.grammar_laws.proofs.complete_rules.Functions.{rest_same}
 use Rattle.parse_source_laws.specs.Sources.{one}
 use Rattle.parse_source_laws.specs.Ahead.{Named, Instead, at_list}
 use Rattle.parse_source_laws.proofs.Ahead.{one_ahead}
@@ -71,14 +73,6 @@ by_cond : {A : Type 0} (b : Bool) (x y z : A) (P : Type 0) → cond b x y ≡ z 
 by_cond true x y z P h f g = f refl h
 by_cond false x y z P h f g = g refl h
 
-when : {A : Type 0} (b : Bool) (x y z : A) → b ≡ true → x ≡ z → cond b x y ≡ z
-when true x y z e h = h
-when false x y z e h = absurd (true≢false (sym e))
-
-unless : {A : Type 0} (b : Bool) (x y z : A) → b ≡ false → y ≡ z → cond b x y ≡ z
-unless true x y z e h = absurd (true≢false e)
-unless false x y z e h = h
-
 -- ---- one parameter
 
 -- what an initialiser asks of another rest
@@ -89,11 +83,6 @@ Onward _ l qs = Unit {0}
 pub onward_comma : (x : Tree) (l qs : List PlacedToken) → kind_of l ≡ comma_kind → one l ≡ one qs → Onward x l qs
 onward_comma (param s ds (assign_pat t p e)) l qs k o = record { next = o; question = λ _ q. absurd (true≢false (ap (λ (n : ℕ). eqb n comma_kind) (sym k ∙ q))); word = λ _ _ _ w. absurd (true≢false (sym w ∙ ap may_name k)) }
 onward_comma _ l qs k o = tt
-
-pub rest_alike : (inner : Inner Input) (x : Tree) → is_param x ≡ true → is_rest_param lm inner x ≡ is_rest x
-rest_alike inner (param s ds (rest_pat t d p)) h = refl
-rest_alike inner (param s ds _) h = refl
-rest_alike inner _ h = absurd (true≢false (sym h))
 
 -- ---- parameters that are produced
 
@@ -143,7 +132,7 @@ module _ (d : ℕ) (c : Code) where
       let a = then_ok ((readers lm d).pat (with_in c) (at_list p.spot.hi v k)) (whole_rest (at_list n (p ∷ v) k)) (x, r) h in
       let z = (one_ahead d (with_in c)).bindings p.spot.hi v k a.0.0 a.0.1 named.1 a.1 in
       let s = same_ok _ (x, r) a.2 in
-      subst (λ (y : Tree × State Input). One n (p ∷ v) k y.0 y.1) s (p ∷ z.0, ap (λ u. p ∷ u) z.1, λ qs o i. when (eqb p.spot.token.kind dot_dot_dot_kind) _ _ _ e (ap (λ (y : Ans). y >>= whole_rest (at_list n (p ∷ (z.0 ++ qs)) k)) (z.2 qs o)), tt)
+      subst (λ (y : Tree × State Input). One n (p ∷ v) k y.0 y.1) s (p ∷ z.0, ap (λ u. p ∷ u) z.1, λ qs o i. cond_first (eqb p.spot.token.kind dot_dot_dot_kind) _ _ _ e (ap (λ (y : Ans). y >>= whole_rest (at_list n (p ∷ (z.0 ++ qs)) k)) (z.2 qs o)), tt)
 
   -- what stands first, of another list
   module _ (n : ℕ) (ps front rest qs : List PlacedToken) (is : ps ≡ front ++ rest) (o : one rest ≡ one qs) where
@@ -169,8 +158,8 @@ module _ (d : ℕ) (c : Code) where
         z.1 ∙ (ap (λ w. z.0 ++ w) (l ∙ ap (λ w. q ∷ w) y.1) ∙ sym (append_assoc z.0 (q ∷ y.0) a.0.1.source.places)),
         λ qs o go. subst (λ w. parameter_by lm (readers lm d) c (at_list n w k) ≡ Ok (param (span (lo_of n ps) a.0.1.source.last) none (assign_pat (span (lo_of n ps) a.0.1.source.last) p a.0.0), at_list a.0.1.source.last qs a.0.1.commas)) (sym (append_assoc z.0 (q ∷ y.0) qs))
             (let next : one m.source.places ≡ one (q ∷ (y.0 ++ qs)) = ap one l in
-            unless (eqb (kind_of (z.0 ++ q ∷ (y.0 ++ qs))) dot_dot_dot_kind) _ _ _ (ap (λ (j : ℕ). eqb j dot_dot_dot_kind) (same_kind n ps z.0 m.source.places (q ∷ (y.0 ++ qs)) z.1 next) ∙ dots)
-            (ap (λ (w : Ans). w >>= after_pattern (at_list n (z.0 ++ q ∷ (y.0 ++ qs)) k)) (z.2 (q ∷ (y.0 ++ qs)) next) ∙ when (eqb q.spot.token.kind assign_kind) _ _ _ (sym (ap (λ w. eqb (kind_of w) assign_kind) l) ∙ i)
+            cond_second (eqb (kind_of (z.0 ++ q ∷ (y.0 ++ qs))) dot_dot_dot_kind) _ _ _ (ap (λ (j : ℕ). eqb j dot_dot_dot_kind) (same_kind n ps z.0 m.source.places (q ∷ (y.0 ++ qs)) z.1 next) ∙ dots)
+            (ap (λ (w : Ans). w >>= after_pattern (at_list n (z.0 ++ q ∷ (y.0 ++ qs)) k)) (z.2 (q ∷ (y.0 ++ qs)) next) ∙ cond_first (eqb q.spot.token.kind assign_kind) _ _ _ (sym (ap (λ w. eqb (kind_of w) assign_kind) l) ∙ i)
             (ap (λ (w : Ans). w >>= valued (at_list n (z.0 ++ q ∷ (y.0 ++ qs)) k) p) (y.2 qs go)
             ∙ ap (λ (j : ℕ). Ok (param (span j a.0.1.source.last) none (assign_pat (span j a.0.1.source.last) p a.0.0), at_list a.0.1.source.last qs a.0.1.commas)) (same_start n ps z.0 m.source.places (q ∷ (y.0 ++ qs)) z.1 next)))),
         (at_list q.spot.hi v m.commas, a.1),
@@ -192,8 +181,8 @@ module _ (d : ℕ) (c : Code) where
         z.0,
         z.1,
         λ qs o _.
-            unless (eqb (kind_of (z.0 ++ qs)) dot_dot_dot_kind) _ _ _ (ap (λ (j : ℕ). eqb j dot_dot_dot_kind) (same_kind n ps z.0 m.source.places qs z.1 o) ∙ dots)
-            (ap (λ (w : Ans). w >>= after_pattern (at_list n (z.0 ++ qs) k)) (z.2 qs o) ∙ unless (eqb (kind_of qs) assign_kind) _ _ _ (ap (λ (j : ℕ). eqb j assign_kind) (sym (kind_alike m.source.places qs o)) ∙ i)
+            cond_second (eqb (kind_of (z.0 ++ qs)) dot_dot_dot_kind) _ _ _ (ap (λ (j : ℕ). eqb j dot_dot_dot_kind) (same_kind n ps z.0 m.source.places qs z.1 o) ∙ dots)
+            (ap (λ (w : Ans). w >>= after_pattern (at_list n (z.0 ++ qs) k)) (z.2 qs o) ∙ cond_second (eqb (kind_of qs) assign_kind) _ _ _ (ap (λ (j : ℕ). eqb j assign_kind) (sym (kind_alike m.source.places qs o)) ∙ i)
             (ap (λ (j : ℕ). Ok (param (span j m.source.last) none p, at_list m.source.last qs m.commas)) (same_start n ps z.0 m.source.places qs z.1 o))),
         plain_valued (span (lo_of n ps) m.source.last) p m (patterns_sound d (with_in c) (at_list n ps k) p m a.1).0,
       ))
@@ -254,14 +243,14 @@ module _ (d : ℕ) (c : Code) where
     where
       turned : (qs : List PlacedToken) → one ps ≡ one qs → (true ≡ false → Onward (last_tree none) ps qs) → (N : ℕ) → length qs < N → turns N xs (at_list n qs k) ≡ Ok (xs, at_list n qs k)
       turned qs o g zero lt = absurd (omega (arith, lt))
-      turned qs o g (suc N) lt = ap (λ (w : Ended). w >>= next_by (bound lm) (turns N) (length qs)) (unless (starts qs) (parameter_by lm (readers lm d) c (at_list n qs k) >>= after_param xs) (Ok (finished xs, at_list n qs k)) (Ok (finished xs, at_list n qs k)) (sym (first_alike starts (λ p l. refl) ps qs o) ∙ off) refl)
+      turned qs o g (suc N) lt = ap (λ (w : Ended). w >>= next_by (bound lm) (turns N) (length qs)) (cond_second (starts qs) (parameter_by lm (readers lm d) c (at_list n qs k) >>= after_param xs) (Ok (finished xs, at_list n qs k)) (Ok (finished xs, at_list n qs k)) (sym (first_alike starts (λ p l. refl) ps qs o) ∙ off) refl)
 
   module _ (n : ℕ) (ps : List PlacedToken) (k : List ℕ) (xs : List Tree) (x : Tree) (m : State Input) (on : starts ps ≡ true) (z : One n ps k x m) (i : is_param x ≡ true) (made : Produces x (coded false c) (input_at n ps) m.source) where
     -- it is read before another rest, and what follows it is read
     param_turn : (qs : List PlacedToken) → one m.source.places ≡ one qs → Onward x m.source.places qs → (N : ℕ) (y : Ended) → after_param xs (x, at_list m.source.last qs m.commas) ≡ y → turns (suc N) xs (at_list n (z.0 ++ qs) k) ≡ (y >>= next_by (bound lm) (turns N) (length (z.0 ++ qs)))
     unfolding iterate_n bare_step
     param_turn qs o g N y e = ap (λ (w : Ended). w >>= next_by (bound lm) (turns N) (length (z.0 ++ qs)))
-        (when (starts (z.0 ++ qs)) (parameter_by lm (readers lm d) c (at_list n (z.0 ++ qs) k) >>= after_param xs) (Ok (finished xs, at_list n (z.0 ++ qs) k)) y (sym (first_alike starts (λ p l. refl) (z.0 ++ m.source.places) (z.0 ++ qs) (first_onto z.0 m.source.places qs o)) ∙ (sym (ap starts z.1) ∙ on))
+        (cond_first (starts (z.0 ++ qs)) (parameter_by lm (readers lm d) c (at_list n (z.0 ++ qs) k) >>= after_param xs) (Ok (finished xs, at_list n (z.0 ++ qs) k)) y (sym (first_alike starts (λ p l. refl) (z.0 ++ m.source.places) (z.0 ++ qs) (first_onto z.0 m.source.places qs o)) ∙ (sym (ap starts z.1) ∙ on))
         (ap (λ (w : Ans). w >>= after_param xs) (z.2 qs o g) ∙ e))
 
     -- the last one
@@ -280,7 +269,7 @@ module _ (d : ℕ) (c : Code) where
         turned : (qs : List PlacedToken) → one m.source.places ≡ one qs → (false ≡ false → Onward x m.source.places qs) → (N : ℕ) → length (z.0 ++ qs) < N → turns N xs (at_list n (z.0 ++ qs) k) ≡ Ok (xs ++ x ∷ [], at_list m.source.last qs m.commas)
         turned qs o g zero lt = absurd (omega (arith, lt))
         turned qs o g (suc N) lt = param_turn qs o (g refl) N (Ok (finished (xs ++ x ∷ []), at_list m.source.last qs m.commas))
-            (unless (goes (x, at_list m.source.last qs m.commas)) _ _ _ (ap (λ (j : ℕ). eqb j comma_kind && not (is_rest_param lm (readers lm d) x)) (sym (kind_alike m.source.places qs o)) ∙ off) refl)
+            (cond_second (goes (x, at_list m.source.last qs m.commas)) _ _ _ (ap (λ (j : ℕ). eqb j comma_kind && not (is_rest_param lm (readers lm d) x)) (sym (kind_alike m.source.places qs o)) ∙ off) refl)
 
     -- a comma, and more
     more_there : (ys : List Tree) (r : State Input) (q : PlacedToken) (v : List PlacedToken) → m.source.places ≡ q ∷ v → goes (x, m) ≡ true → ReadAll (xs ++ x ∷ []) (hi_of m.source.last m.source.places) (others m.source.places) m.commas ys r → ReadAll xs n ps k ys r
@@ -288,7 +277,7 @@ module _ (d : ℕ) (c : Code) where
       trees = more x w.trees;
       is = w.is ∙ append_assoc xs (x ∷ []) (unpack w.trees);
       comma = w.comma;
-      derived = bare_more (coded false c) w.comma x w.trees (input_at n ps) m.source (input_at (hi_of m.source.last m.source.places) (others m.source.places)) r.source i made (sym (rest_alike (readers lm d) x i) ∙ not-true (is_rest_param lm (readers lm d) x) parts.1) (comma_is, tt, refl) w.derived;
+      derived = bare_more (coded false c) w.comma x w.trees (input_at n ps) m.source (input_at (hi_of m.source.last m.source.places) (others m.source.places)) r.source i made (sym (rest_same (readers lm d) x i) ∙ not-true (is_rest_param lm (readers lm d) x) parts.1) (comma_is, tt, refl) w.derived;
       front = z.0 ++ q ∷ w.front;
       cuts = z.1 ∙ (ap (λ u. z.0 ++ u) (l ∙ ap (λ u. q ∷ u) (sym (ap others l) ∙ w.cuts)) ∙ sym (append_assoc z.0 (q ∷ w.front) r.source.places));
       valued = λ e. subst (λ (u : Tree). Valued u r) (sym (last_is e)) (w.valued e);
@@ -311,8 +300,8 @@ module _ (d : ℕ) (c : Code) where
             let low = longer_list z.0 q (w.front ++ qs) in
             let go = λ (e : w.comma ≡ false). subst (λ (u : Tree). Onward u r.source.places qs) (last_is e) (g e) in
             param_turn (q ∷ (w.front ++ qs)) next (onward_comma x m.source.places (q ∷ (w.front ++ qs)) comma_is next) N (Ok (go_on (xs ++ x ∷ []), at_list q.spot.hi (w.front ++ qs) m.commas))
-            (when (goes (x, at_list m.source.last (q ∷ (w.front ++ qs)) m.commas)) _ _ _ (ap (λ u. eqb (kind_of u) comma_kind && not (is_rest_param lm (readers lm d) x)) (sym l) ∙ yes_comma) refl)
-            ∙ when (nat_lt (length (w.front ++ qs)) (length (z.0 ++ q ∷ (w.front ++ qs)))) _ _ _ (lt-ltb (length (w.front ++ qs)) (length (z.0 ++ q ∷ (w.front ++ qs))) low)
+            (cond_first (goes (x, at_list m.source.last (q ∷ (w.front ++ qs)) m.commas)) _ _ _ (ap (λ u. eqb (kind_of u) comma_kind && not (is_rest_param lm (readers lm d) x)) (sym l) ∙ yes_comma) refl)
+            ∙ cond_first (nat_lt (length (w.front ++ qs)) (length (z.0 ++ q ∷ (w.front ++ qs)))) _ _ _ (lt-ltb (length (w.front ++ qs)) (length (z.0 ++ q ∷ (w.front ++ qs))) low)
             (subst (λ (u : ℕ). turns N (xs ++ x ∷ []) (at_list u (w.front ++ qs) m.commas) ≡ Ok (ys, at_list r.source.last qs r.commas)) (ap (hi_of m.source.last) l) (w.again qs o go N (omega (arith, lt, low))))
 
   pub read_all : (fuel n : ℕ) (ps : List PlacedToken) (k : List ℕ) (xs ys : List Tree) (r : State Input) → Named ps → turns fuel xs (at_list n ps k) ≡ Ok (ys, r) → ReadAll xs n ps k ys r

@@ -1,5 +1,6 @@
 -- Parameters without their parentheses, and properties of patterns with a rest: over a source and over the list that it hands out, both ways.
 use Rattle.std.proofs.Common.{◌≡◌, ℕ, Bool, true, false, not, ◌&&◌, cond, if◌then◌else◌, List, [], ◌∷◌, ◌++◌, Result, Ok, refl, sym, ap, ap₂, ◌∙◌, true≢false}
+use Rattle.base_proofs.proofs.Bools.{and_first}
 use Rattle.base_token.specs.declared.place.Span.{Span}
 use Rattle.base_token.specs.Kinds.{comma_kind, dot_dot_dot_kind}
 use Rattle.tree_spec.specs.Tree.{Tree, rest_pat}
@@ -9,7 +10,7 @@ use Rattle.grammar_spec.specs.Tokens.Shape.{is_structured}
 use Rattle.grammar_spec.specs.Reader.Source.{Fault, unexpected, ◌>>=◌, Stream, State, Inner, Step, go_on, finished, input, past, at, spanned}
 use Rattle.grammar_spec.specs.Reader.Expressions.{is_rest_param}
 use Rattle.parse_source_laws.specs.Sources.{Orderly}
-use Rattle.parse_source_laws.proofs.Beside.{lm, on, Ceiling, Beside, Told, and_left, agree1, at_same, lo_same, span_same, joined_at, told_ok, never, told_then, told_if, told_at, told_iterate, same_rest, Heard}
+use Rattle.parse_source_laws.proofs.Beside.{lm, on, Ceiling, Beside, Told, agree1, at_same, lo_same, span_same, joined_at, told_ok, never, told_then, told_if, told_at, told_iterate, same_rest, Heard}
 use Rattle.parse_source_laws.proofs.Pairs.{Keeps, Pairing, Paired}
 use Rattle.parse_source_laws.proofs.Backs.{calm, shut_keeps, same_keeps, kept, list_at, was, stay, join, token, Backed, Steps, back_never, back_ok, back_weak, back_same, back_then, back_test, back_past, back_at, back_iterate, agrees, live_past, lo_was, at_was, here_at, Echoed}
 use Rattle.parse_source_laws.proofs.Expressions.{parameter_by_told}
@@ -27,7 +28,7 @@ module _ {S : Type 0} {m : Stream S} {Live : S → Type 0} {modular : Bool} (w :
   unfolding bare_step
   bare_step_told k c ce ps s s' sh = told_if w k (starts_param lm c s') (starts_param m c s) (agree1 w (λ z. starts_param lm c (on [] 0 z)) (λ p q l v. refl) (λ p q l v. refl) (λ p l v. refl) k s s' sh) _ _ _ _
       (λ _. told_then w k _ _ _ _ (parameter_by_told w told k c ce s s' sh) (λ p0 p1 p1' p1h. told_if w k _ _ (ap₂ (λ (a b : Bool). a && not b) (at_same w comma_kind (refl, refl, refl, refl) k p1 p1' p1h) (same_rest m im il p0)) _ _ _ _
-      (λ y. told_ok w k _ _ (past m p1) (past lm p1') (joined_at w comma_kind (refl, refl, refl, refl) k p1 p1' p1h (and_left (at lm comma_kind p1') (not (is_rest_param lm il p0)) y)).after refl) (λ _. told_ok w k _ _ p1 p1' p1h refl)))
+      (λ y. told_ok w k _ _ (past m p1) (past lm p1') (joined_at w comma_kind (refl, refl, refl, refl) k p1 p1' p1h (and_first (at lm comma_kind p1') (not (is_rest_param lm il p0)) y)).after refl) (λ _. told_ok w k _ _ p1 p1' p1h refl)))
       (λ _. told_ok w k _ _ s s' sh refl)
 
   pub bare_by_told : (k : Ceiling) (c : Code) (ce : c.context.module_ ≡ modular) (s : State S) (s' : State Input) (sh : Beside m Live k s s') → Told m Live k (bare_by lm il c s') (bare_by m im c s)
@@ -60,7 +61,7 @@ module _ {S : Type 0} {m : Stream S} {Live : Pairing m} {modular : Bool} (w : Pa
   bare_step_steps s c ce ps sl = step_unless (starts_param m c s) (λ r'. starts_param lm c r') ps _ _ sl (λ qs h. agrees w (λ z. starts_param lm c (on [] 0 z)) ((λ p q l v. refl), (λ p q l v. refl), (λ p l v. refl)) s sl qs h)
       (λ _. back_then _ _ _ _ (parameter_by_backed w echo s c ce sl) (λ pa pt pu. back_test (at m comma_kind pt && not (is_rest_param m im pa)) (λ r'. at lm comma_kind r' && not (is_rest_param lm il pa)) _ _ _ _
       (λ qs h. ap (λ (z : Bool). z && not (is_rest_param lm il pa)) (at_was w comma_kind (refl, refl, refl, refl) (stay {s = pt} pu.live) qs h) ∙ ap (λ (z : Bool). at m comma_kind pt && not z) (same_rest m im il pa))
-      (λ y. let j = here_at w comma_kind (refl, refl, refl, refl) refl pt pu.live (and_left _ _ y) in back_weak _ (back_past w {s = pt} j _ (λ r' q'. Ok (go_on (ps ++ pa ∷ []), q')) (back_ok {s = past m pt} _ _ (live_past w j) (λ qs h. refl) (shut_keeps closed_end))))
+      (λ y. let j = here_at w comma_kind (refl, refl, refl, refl) refl pt pu.live (and_first _ _ y) in back_weak _ (back_past w {s = pt} j _ (λ r' q'. Ok (go_on (ps ++ pa ∷ []), q')) (back_ok {s = past m pt} _ _ (live_past w j) (λ qs h. refl) (shut_keeps closed_end))))
       (λ _. back_ok {s = pt} _ _ pu.live (λ qs h. refl) (same_keeps 0)))) (shut_keeps 0)
 
   pub bare_by_backed : (s : State S) (c : Code) (ce : c.context.module_ ≡ modular) (sl : Live.live s.source) → Backed m Live calm false closed_end s (bare_by m im c s) (λ r'. bare_by lm il c r')

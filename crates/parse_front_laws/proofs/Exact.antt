@@ -1,10 +1,10 @@
 -- Each complete front is what an entry reads.
 use Rattle.std.proofs.Common.{◌≡◌, ◌≤◌, ℕ, Bool, false, cond, if◌then◌else◌, List, Result, Ok, sym, ap, ◌∙◌}
 use Rattle.tree_spec.specs.Tree.{Tree, Trees, pack, unpack, list}
+use Rattle.tree_spec.proofs.PackLemmas.{pack_unpack}
 use Rattle.grammar_spec.specs.Tokens.Input.{Input, Code}
 use Rattle.grammar_spec.specs.Tokens.Shape.{is_statement, last_of}
 use Rattle.grammar_spec.specs.Reader.Source.{Fault, unexpected, ◌>>=◌, State, list_stream}
-use Rattle.grammar_laws.proofs.complete_rules.Lists.{pack_unpack}
 use Rattle.parse_front_laws.specs.Complete.Laws.{Whatever, Expression, Binding, Key, Statement, ListItem, ModuleItem}
 use Rattle.parse_front_laws.specs.Complete.Exact.{Stopped}
 use Rattle.parse_front_laws.specs.Complete.Asyncs.{takes_name, Worded}

@@ -1,30 +1,28 @@
 -- Parameters that are produced without their parentheses are read, where the initialiser of the last one is read and nothing goes on there.
 use Rattle.std.proofs.Common.{◌≡◌, ℕ, ◌<◌, ◌≤◌, max, Bool, true, false, not, ◌&&◌, ◌==◌, eqb, List, [], ◌∷◌, ◌++◌, refl, sym, ap, ◌∙◌, subst, ⊎_elim, true≢false, append_assoc, append-nil, arith}
-use Rattle.std.proofs.lemmas.Bool.{eq-eqb, or_left, or_right, or_cases, and_from}
+use Rattle.std.proofs.lemmas.Bool.{eq-eqb, or_left, or_right, and_from}
 use Rattle.base_token.specs.declared.place.Span.{Span}
 use Rattle.base_token.specs.Kinds.{dot_dot_dot_kind, left_bracket_kind, left_brace_kind, comma_kind, assign_kind}
 use Rattle.tree_spec.specs.Tree.{Tree, Trees, none, more, unpack, param, binding_ident, array_pat, object_pat, ident, assign_pat, rest_pat}
 use Rattle.grammar_spec.specs.Tokens.Input.{PlacedToken, Input, Code, kind, lo, span, rest, dots_at, with_in, Takes}
 use Rattle.grammar_spec.specs.Tokens.Operators.{assignment_level}
-use Rattle.grammar_spec.specs.Tokens.Shape.{level, ends, is_binding, is_place, is_item_pat, is_param, is_rest}
+use Rattle.grammar_spec.specs.Tokens.Shape.{level, ends, is_binding, is_item_pat, is_param, is_rest}
 use Rattle.grammar_spec.specs.Grammar.{Produces}
 use Rattle.grammar_spec.specs.Reader.Source.{is_name, go_on, finished}
 use Rattle.grammar_spec.specs.Reader.Expressions.{parameter_by, is_rest_param}
 use Rattle.grammar_laws.proofs.complete_base.Yields.{lm, from, len, coded, Reads, Is, then_is, then_past, here, past_here, if_no, if_yes, Loops, loop_on, loop_end, looped, named}
 use Rattle.grammar_laws.proofs.complete_base.Levels.{comma_after}
-use Rattle.grammar_laws.proofs.complete_base.Trees.{takes, no_kind}
+use Rattle.grammar_laws.proofs.complete_base.Trees.{takes}
 use Rattle.grammar_laws.proofs.complete_base.Cuts.{cut}
 use Rattle.grammar_laws.proofs.complete_rules.Lists.{two_asked}
 use Rattle.grammar_laws.proofs.complete_rules.Nested.{Nested, patterned}
 use Rattle.grammar_laws.proofs.complete_rules.Within.{ItemIn, item_in, Within, Withins, within, withins}
-use Rattle.grammar_laws.proofs.complete_rules.Functions.{empty_none}
-use Rattle.grammar_laws.proofs.complete_rules.Starts.{starts_binding, binding_starts}
+use Rattle.grammar_laws.proofs.complete_rules.Functions.{empty_none, no_dots, rest_same}
+use Rattle.grammar_laws.proofs.complete_rules.Starts.{binding_starts}
+use Rattle.grammar_laws.proofs.Shapes.{place_binds}
 use Rattle.parse_source_laws.specs.Ahead.{at_list}
 use Rattle.parse_alone.specs.Parts.{starts_param, bare_step, bare_by}
-use Rattle.parse_front_laws.proofs.Ahead.{Bare, rest_alike}
-
-place_binds : (t : Tree) → is_place true t ≡ true → is_binding t ≡ true
-place_binds t h = ⊎_elim (λ q. q) (λ q. absurd (true≢false (sym q))) (or_cases (is_binding t) _ h)
+use Rattle.parse_front_laws.proofs.Ahead.{Bare}
 
 abbrev pub starts : Code → List PlacedToken → Bool
 starts c l = starts_param lm c (at_list 0 l [])
@@ -51,9 +49,6 @@ module _ (z : Nested) (c : Code) where
       by_item (rest_pat t d p) g = tt
       by_item a g = λ b h. ap (λ (j : ℕ). eqb j assign_kind) q
   comma_fits _ ts m i g q = absurd (true≢false (sym i))
-
-  no_dots : (ts : Input) → starts_binding (kind ts) ≡ true → eqb (kind ts) dot_dot_dot_kind ≡ false
-  no_dots ts h = no_kind starts_binding (kind ts) dot_dot_dot_kind h refl
 
   plain_read : (s : Span) (a : Tree) (ts m : Input) (k : List ℕ) → z.Covered a → is_binding a ≡ true → Produces a (patterned false (with_in c)) ts m → s ≡ span (lo ts) m.last → eqb (kind m) assign_kind ≡ false → Reads (from ts k) (parameter_by lm z.inner c (from ts k)) (Is (param s none a) m) (z.depth < z.reach a)
   unfolding parameter_by
@@ -120,13 +115,13 @@ module _ (z : Nested) (c : Code) where
       → Reads (from ts k) (bare_step lm z.inner c acc (from ts k)) (Is (go_on (acc ++ x ∷ [])) r) (z.depth < within z.reach x)
   unfolding bare_step
   more_step x acc ts m r k i g h n e q = if_yes (starts_param lm c (from ts k)) _ _ _ _ (param_there x ts m k i h) (then_is (parameter_by lm z.inner c (from ts k)) _ x m (z.depth < within z.reach x) _ _ (param_read x ts m k i g h (comma_fits x ts m i g e)) (λ u. u)
-      (λ j. if_yes ((kind m == comma_kind) && not (is_rest_param lm z.inner x)) _ _ _ _ (and_from (kind m == comma_kind) _ (eq-eqb (kind m) comma_kind e) (ap not (rest_alike z.inner x i ∙ n))) (past_here refl q)))
+      (λ j. if_yes ((kind m == comma_kind) && not (is_rest_param lm z.inner x)) _ _ _ _ (and_from (kind m == comma_kind) _ (eq-eqb (kind m) comma_kind e) (ap not (rest_same z.inner x i ∙ n))) (past_here refl q)))
 
   last_step : (x : Tree) (acc : List Tree) (ts r : Input) (k : List ℕ) → is_param x ≡ true → Within z.Covered x → Produces x (coded false c) ts r → FitsParam x ts r → ((kind r == comma_kind) && not (is_rest x)) ≡ false
       → Reads (from ts k) (bare_step lm z.inner c acc (from ts k)) (Is (finished (acc ++ x ∷ [])) r) (z.depth < within z.reach x)
   unfolding bare_step
   last_step x acc ts r k i g h f e = if_yes (starts_param lm c (from ts k)) _ _ _ _ (param_there x ts r k i h) (then_is (parameter_by lm z.inner c (from ts k)) _ x r (z.depth < within z.reach x) _ _ (param_read x ts r k i g h f) (λ u. u)
-      (λ j. if_no ((kind r == comma_kind) && not (is_rest_param lm z.inner x)) _ _ _ _ (ap (λ (b : Bool). (kind r == comma_kind) && not b) (rest_alike z.inner x i) ∙ e) (here refl)))
+      (λ j. if_no ((kind r == comma_kind) && not (is_rest_param lm z.inner x)) _ _ _ _ (ap (λ (b : Bool). (kind r == comma_kind) && not b) (rest_same z.inner x i) ∙ e) (here refl)))
 
   none_step : (acc : List Tree) (r : Input) (k : List ℕ) → starts c r.places ≡ false → Reads (from r k) (bare_step lm z.inner c acc (from r k)) (Is (finished acc) r) ⊥
   unfolding bare_step

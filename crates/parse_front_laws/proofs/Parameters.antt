@@ -3,6 +3,7 @@ use Rattle.std.proofs.Common.{◌≡◌, ◌<◌, ◌≤◌, ◌+◌, ℕ, suc, 
 use Rattle.std.proofs.lemmas.Bool.{and_left}
 use Rattle.base_token.specs.Kinds.{comma_kind, assign_kind, question_mark_kind}
 use Rattle.tree_spec.specs.Tree.{Tree, Trees, none, more, pack, unpack, list, param, rest_pat, assign_pat, ident, assign_expr, cond_expr, arrow_expr, yield_expr}
+use Rattle.tree_spec.proofs.PackLemmas.{pack_unpack}
 use Rattle.tree_nesting.specs.Nesting.{nesting}
 use Rattle.grammar_spec.specs.Tokens.Input.{PlacedToken, Input, Code, kind, kind_of, with_in, in_arrow}
 use Rattle.grammar_spec.specs.Tokens.Operators.{goes_expr, may_name, assignment_level}
@@ -19,7 +20,7 @@ use Rattle.grammar_laws.proofs.complete_base.Yields.{lm, from, After, Yields, Re
 use Rattle.grammar_laws.proofs.complete_base.Trees.{covered, size, sizes, reach, no_kind}
 use Rattle.grammar_laws.proofs.complete_rules.Finds.{lasts}
 use Rattle.grammar_laws.proofs.complete_rules.Functions.{empty_none}
-use Rattle.grammar_laws.proofs.complete_rules.Lists.{pack_unpack, two_asked}
+use Rattle.grammar_laws.proofs.complete_rules.Lists.{two_asked}
 use Rattle.grammar_laws.proofs.complete_rules.Within.{ItemIn, Within, withins}
 use Rattle.grammar_laws.proofs.complete.Sizes.{Small, inwards, withins_reach}
 use Rattle.grammar_laws.proofs.complete.Tied.{known, complete}

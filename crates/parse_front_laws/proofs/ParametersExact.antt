@@ -1,6 +1,6 @@
 -- Each complete front of parameters without their parentheses is read: where the code would go on, a longer list does.
 use Rattle.std.proofs.Common.{◌≡◌, ◌<◌, ◌≤◌, ◌+◌, inl, inr, ℕ, suc, Bool, true, false, not, ◌&&◌, ◌||◌, ◌==◌, cond, eqb, leb, codes, bytes_eq, List, [], ◌∷◌, ◌++◌, length, refl, sym, ap, ap₂, ◌∙◌, subst, ⊎_elim, true≢false, arith}
-use Rattle.std.proofs.lemmas.Bool.{eqb-true, leb-false, and_parts, and_from, or_cases, or_left, or_from, or_parts, not-true}
+use Rattle.std.proofs.lemmas.Bool.{eqb-true, leb-false, and_parts, and_from, or_cases, or_left, or_from, or_parts, not-true, false_from_ne_true}
 use Rattle.base_token.specs.Kinds.{comma_kind, assign_kind, question_mark_kind, null_kind, name_kind, dot_dot_dot_kind, left_bracket_kind, right_bracket_kind, left_brace_kind, right_brace_kind, plus_plus_kind, minus_minus_kind, yield_kind, await_kind}
 use Rattle.tree_spec.specs.Tree.{Tree, Trees, none, more, list, param, rest_pat, assign_pat, binding_ident, array_pat, object_pat, ident, null_lit, assign_expr, cond_expr, arrow_expr, yield_expr}
 use Rattle.tree_nesting.specs.Nesting.{nesting}
@@ -17,6 +17,7 @@ use Rattle.grammar_laws.proofs.complete_base.Trees.{covered, size, sizes, no_kin
 use Rattle.grammar_laws.proofs.complete_rules.Finds.{lasts}
 use Rattle.grammar_laws.proofs.complete_rules.Lists.{two_asked}
 use Rattle.grammar_laws.proofs.complete.Tied.{known, complete}
+use Rattle.grammar_laws.proofs.Shapes.{update_op}
 use Rattle.parse_source_laws.specs.Ahead.{at_list}
 use Rattle.parse_front_laws.specs.Complete.Laws.{input_at, EndsAt, EndsBefore, IsComplete, Expression}
 use Rattle.parse_front_laws.specs.Complete.Exact.{goes_after, Stopped}
@@ -27,7 +28,7 @@ use Rattle.parse_front_laws.proofs.complete.Alone.{behind, cut_end, operand}
 use Rattle.parse_front_laws.proofs.complete.Onto.{Mild, Onto, onto}
 use Rattle.parse_front_laws.proofs.complete.Longer.{mark, onward, onward_mild, onward_order, level_of, NoLonger, bounded, bounded_leads}
 use Rattle.parse_front_laws.proofs.complete.Updates.{no_update}
-use Rattle.parse_front_laws.proofs.complete.Exact.{still, still_leads, update_goes, updates}
+use Rattle.parse_front_laws.proofs.complete.Exact.{still, still_leads, update_goes}
 use Rattle.parse_front_laws.proofs.complete.Asyncs.{order_with}
 use Rattle.parse_alone.specs.Ends.{initial_of}
 use Rattle.parse_alone.specs.Parts.{bare_by}
@@ -54,10 +55,6 @@ all_stop : (c : Code) (r : Input) (xs : Trees) → Stops c r (last_tree xs) → 
 all_stop c r none h = tt
 all_stop c r (more x none) h = h
 all_stop c r (more x (more y ys)) h = all_stop c r (more y ys) h
-
-by_false : (b : Bool) → (b ≡ true → ⊥) → b ≡ false
-by_false true f = absurd (f refl)
-by_false false f = refl
 
 -- ---- before `?`
 
@@ -119,7 +116,7 @@ module _ (q : PlacedToken) (beyond : List PlacedToken) (plain : eqb q.spot.token
 
         by_kind : (x : Bool) → between plus_plus_kind minus_minus_kind (kind r) ≡ x → cond x 0 (goes_expr (with_in c) (ends e) r) < 2 → goes_expr (with_in c) (ends e) r < 2
         by_kind false i s = s
-        by_kind true i s = let up = updates (kind r) i in subst (λ (m : ℕ). m < 2) (sym (update_goes (with_in c) (ends e) r up)) (by_class (leb 2 (ends e)) (leb 1 (ends e)) (brk r) refl refl refl up)
+        by_kind true i s = let up = update_op (kind r) i in subst (λ (m : ℕ). m < 2) (sym (update_goes (with_in c) (ends e) r up)) (by_class (leb 2 (ends e)) (leb 1 (ends e)) (brk r) refl refl refl up)
 
     -- an initialiser goes on
     no_value : (a : Tree) (ts : Input) → NoneLonger ts → is_binding a ≡ true → Produces a (patterned false (with_in c)) ts r → eqb (kind r) assign_kind ≡ true → ⊥
@@ -183,15 +180,15 @@ module _ (q : PlacedToken) (beyond : List PlacedToken) (plain : eqb q.spot.token
         lasts (suc (size e)) d (λ i. (known (suc (size e))).comes i) (bounded q beyond plain) (bounded_leads q beyond plain) e false (with_in c) 2 o r j (omega arith) (covered e) h (omega arith) (omega arith) two_asked le (value_stops e o none_so le h stop)
         (record { fits = inl le; final = none_so; calm = calm; there = there })
     exact_fits z d (param s ds (rest_pat t u a)) ts calm w f i p = tt
-    exact_fits z d (param s ds a) ts calm w f i p = λ b h. by_false (eqb (kind r) assign_kind) (λ k. no_value a ts w b h k)
+    exact_fits z d (param s ds a) ts calm w f i p = λ b h. false_from_ne_true (eqb (kind r) assign_kind) (λ k. no_value a ts w b h k)
     exact_fits z d _ ts calm w f i p = tt
 
     exact_knows : (z d : ℕ) (b : Bool) → c.context.in_generator ≡ false → Knows (complete z d) c b r (λ xs ts. NoneLonger ts × LastStops c r xs)
     exact_knows z d b calm = record {
       next = λ x xs ts m o t i e h v. (none_behind x ts m o t.0 i e h v, stops_behind c r x xs t.1);
       final = λ x ts t i g h. exact_fits z d x ts calm t.0 t.1 i h;
-      alone = λ x ts t i h. by_false ((kind r == comma_kind) && not (is_rest x)) (λ k. no_comma x ts t.0 i h k);
-      ended = λ e ts t h. by_false (starts c r.places) (λ k. none_starts (subst (λ (o : Input). NoneLonger o) h t.0) k);
+      alone = λ x ts t i h. false_from_ne_true ((kind r == comma_kind) && not (is_rest x)) (λ k. no_comma x ts t.0 i h k);
+      ended = λ e ts t h. false_from_ne_true (starts c r.places) (λ k. none_starts (subst (λ (o : Input). NoneLonger o) h t.0) k);
     }
 
 -- ---- the word `async` at the end
@@ -301,7 +298,7 @@ module _ (c : Code) (n : ℕ) (ps : List PlacedToken) (xs : Trees) (r : Input) (
             all_alone c calm async block r q beyond j i (initial_of (last_tree xs)) h b.0 xs (input_at n ps) (none_longer q beyond j i) words b.1 (is_last c calm async block r xs)
 
     pub stands_alone : takes_name c (initial_of (last_tree xs)) r ≡ false
-    stands_alone = by_false (takes_name c (initial_of (last_tree xs)) r) (λ h. name_goes r.places refl h)
+    stands_alone = false_from_ne_true (takes_name c (initial_of (last_tree xs)) r) (λ h. name_goes r.places refl h)
 
   module _ (d : ℕ) (deep : nesting (list xs) ≤ d) (stop : ParametersStop c xs r) where
     derived : (b : Bool) × Bare (coded false c) b xs (input_at n ps) r

@@ -27,12 +27,8 @@ use Rattle.lex_other_sources.specs.Rewinding.{back_in}
 use Rattle.lex_other_sources.specs.declared.rewinding.Rewinding.{Rewinding}
 use Rattle.ecma_parser.specs.declared.entries.Entries.{Entries}
 use Rattle.parse_laws.specs.Answered.{AnsweredBy, ReadBy, Comes, SpelledBy, NewAnswer, Answered, EntriesAnswer}
-
-no_tree : {t : Tree} {e : Fault} → ◌≡◌ {A = Result Tree Fault} (Err e) (Ok t) → ⊥
-no_tree {t} {e} h = cc
-
-tree_of : (u t : Tree) → ◌≡◌ {A = Result Tree Fault} (Ok u) (Ok t) → u ≡ t
-tree_of u t h = cc
+use Rattle.parse_laws.proofs.Passes.{no_tree}
+use Rattle.parse_laws.proofs.ParsedLemmas.{tree_of}
 
 -- what is read is answered
 pub comes_by : {X : Type 0} (view : X → Tree) (syntax : EsSyntax) (old new : List Error) (left : ℕ) (result : Result X Error) (x : Result Tree Fault) (t : Tree) → x ≡ Ok t → Parses view syntax left result x old new → Comes view t result

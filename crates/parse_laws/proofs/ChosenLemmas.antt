@@ -40,12 +40,8 @@ use Rattle.parse_laws.specs.Chosen.{NoModule, Chosen, ChosenAnswer, PromisedChoi
 use Rattle.parse_laws.proofs.AnsweredLemmas.{Joins, new_answer, first_read, read_first}
 use Rattle.parse_laws.proofs.TextLemmas.{text_joins, text_first, chars_start}
 use Rattle.parse_laws.proofs.ListAnswers.{list_joins, list_first}
-
-no_tree : {t : Tree} {e : Fault} → ◌≡◌ {A = Result Tree Fault} (Err e) (Ok t) → ⊥
-no_tree {t} {e} h = cc
-
-tree_of : (u t : Tree) → ◌≡◌ {A = Result Tree Fault} (Ok u) (Ok t) → u ≡ t
-tree_of u t h = cc
+use Rattle.parse_laws.proofs.Passes.{no_tree}
+use Rattle.parse_laws.proofs.ParsedLemmas.{tree_of}
 
 module _ (x : Setting) (Reads Spells : Bool → Tree → Type 0) (j : (modules : Bool) → Joins x (Reads modules) (Spells modules)) (modules scripts : Result Tree Fault)
     (read : Judged (Reads true) x.limit modules) (other : Judged (Reads false) x.limit scripts) where

@@ -15,7 +15,7 @@ use Rattle.parse_source_laws.specs.Consumed.{Backward}
 use Rattle.parse_source_laws.proofs.ConsumedLemmas.{programs_consumed}
 use Rattle.ecma_parser.specs.Passed.{program_within}
 use Rattle.parse_laws.specs.Parsed.{DerivesList, Judges}
-use Rattle.parse_laws.proofs.ParsedLemmas.{programs_judged}
+use Rattle.parse_laws.proofs.ParsedLemmas.{programs_judged, tree_of}
 use Rattle.parse_laws.specs.Exact.{read_within, ProgramsExact, OneProgram}
 use Rattle.parse_laws.proofs.Passes.{passed, read_of_goal}
 
@@ -45,13 +45,6 @@ module _ {S : Type 0} (m : Stream S) (Live : S → Type 0) where
     derived = λ e. derived_at m Live modules w limit syntax s t live bw e;
     read = λ placed ps g o d h. read_at m Live modules w limit syntax s t live placed ps g o d h;
   }
-
-  tree_of : (t u : Tree) → ◌≡◌ {A = Result Tree Fault} (Ok t) (Ok u) → t ≡ u
-  tree_of t u e = ap (read_or t) e
-    where
-      read_or : Tree → Result Tree Fault → Tree
-      read_or t (Ok x) = x
-      read_or t (Err e) = t
 
   -- two trees are read at a limit that both are within
   pub one_program : OneProgram m Live

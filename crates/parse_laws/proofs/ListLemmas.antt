@@ -1,5 +1,7 @@
 -- A list hands out its tokens, and no slash of it is read again; so a reading is settled by the list.
 use Rattle.std.proofs.Common.{◌≡◌, ℕ, Bool, true, false, ◌&&◌, ◌||◌, cond, eqb, List, [], ◌∷◌, Option, None, Some, Result, Ok, Err, inl, inr, refl, sym, ap, ◌∙◌, subst, true≢false, eqb-true, arith, le_refl}
+use Rattle.base_proofs.proofs.Bools.{and_second, and_first}
+use Rattle.base_proofs.proofs.Lists.{nil_not_cons, cons_not_nil}
 use Rattle.base_token.specs.Kinds.{template_kind, regex_kind, error_kind}
 use Rattle.base_token.specs.Tokens.{Spot}
 use Rattle.base_token.specs.declared.syntax.EsSyntax.{EsSyntax}
@@ -9,7 +11,7 @@ use Rattle.lex_other_sources.specs.Lists.{list_step, list_machine}
 use Rattle.tree_spec.specs.Tree.{Tree}
 use Rattle.grammar_spec.specs.Tokens.Input.{PlacedToken}
 use Rattle.grammar_laws.specs.CompleteBase.Laws.{InOrder}
-use Rattle.grammar_spec.specs.Reader.Source.{Fault, Unexpected, TooDeep, is_nil}
+use Rattle.grammar_spec.specs.Reader.Source.{Fault, Unexpected, TooDeep}
 use Rattle.parse_state.specs.Cursors.{Cursor, place_of, places, asked, in_place, same_break, read_on, reread_by, operand_by, stream_of}
 use Rattle.parse_source_laws.specs.Sources.{is_slash, HandsOut}
 use Rattle.parse_lexer_laws.specs.Constant.{Falls}
@@ -56,23 +58,9 @@ all (t ∷ ts) settings last = inl (places list_machine 1 (list_step ts settings
 
 -- ---- and no others
 
-no_tokens : (p : PlacedToken) (ps : List PlacedToken) → ([] ≡ p ∷ ps) → ⊥
-no_tokens p ps e = true≢false (ap (λ z. is_nil z) e)
-
-no_more : (p : PlacedToken) (ps : List PlacedToken) → (p ∷ ps ≡ []) → ⊥
-no_more p ps e = true≢false (ap (λ z. is_nil z) (sym e))
-
 abbrev first_or : PlacedToken → List PlacedToken → PlacedToken
 first_or d [] = d
 first_or d (p ∷ ps) = p
-
-and_left : (a b : Bool) → (a && b) ≡ true → a ≡ true
-and_left true b e = refl
-and_left false b e = e
-
-and_right : (a b : Bool) → (a && b) ≡ true → b ≡ true
-and_right true b e = e
-and_right false b e = absurd (true≢false (sym e))
 
 -- a slash is no template's characters
 no_template : (k : ℕ) → is_slash k ≡ true → k ≡ template_kind → ⊥
@@ -81,7 +69,7 @@ no_template k s e = true≢false (sym s ∙ ap (λ (z : ℕ). is_slash z) e)
 -- the token behind a slash begins behind it
 apart : (t u : Spot) (us : List Spot) (start : ℕ) → InOrder start (seen (t ∷ u ∷ us)) → is_slash t.token.kind ≡ true → in_place t (Some u) ≡ true → ⊥
 apart t u us start o k i = let z = o.2 (no_template t.token.kind k) in let y = o.3.0 in
-    let e = eqb-true u.lo t.lo (and_left (eqb u.lo t.lo) (same_break u.line_break t.line_break) (and_right (eqb u.token.kind regex_kind || eqb u.token.kind error_kind) (eqb u.lo t.lo && same_break u.line_break t.line_break) i)) in
+    let e = eqb-true u.lo t.lo (and_first (eqb u.lo t.lo) (same_break u.line_break t.line_break) (and_second (eqb u.token.kind regex_kind || eqb u.token.kind error_kind) (eqb u.lo t.lo && same_break u.line_break t.line_break) i)) in
     omega (arith, z, y, e)
 
 -- so a slash stays
@@ -111,9 +99,9 @@ module _ (t : Spot) (settings : Settings) (last start : ℕ) where
 no_other : (spots : List Spot) (settings : Settings) (start last : ℕ) (ps : List PlacedToken) → InOrder start (seen spots) → HandsOut (stream_of list_machine) ps (read_on (list_step spots settings) last) → ps ≡ seen spots
 unfolding stream_of
 no_other [] settings start last [] o h = refl
-no_other [] settings start last (p ∷ ps) o (inl h) = absurd (no_tokens p h.0 h.1)
-no_other [] settings start last (p ∷ ps) o (inr h) = absurd (no_tokens h.0 h.1 h.3)
-no_other (t ∷ ts) settings start last [] o h = absurd (no_more (place_of t) (places list_machine 1 (list_step ts settings).0 (Some (list_step ts settings).1)) h)
+no_other [] settings start last (p ∷ ps) o (inl h) = absurd (nil_not_cons p h.0 h.1)
+no_other [] settings start last (p ∷ ps) o (inr h) = absurd (nil_not_cons h.0 h.1 h.3)
+no_other (t ∷ ts) settings start last [] o h = absurd (cons_not_nil (place_of t) (places list_machine 1 (list_step ts settings).0 (Some (list_step ts settings).1)) h)
 no_other (t ∷ ts) settings start last (p ∷ ps) o (inl h) = ap (λ (z : List PlacedToken). first_or p z ∷ ps) (sym h.1) ∙ ap (λ (zs : List PlacedToken). place_of t ∷ zs) (no_other ts settings t.hi t.hi ps o.3 h.2)
 no_other (t ∷ ts) settings start last (p ∷ ps) o (inr h) = absurd (true≢false (sym slash ∙ ap (λ (z : ℕ). is_slash z) (ap (λ (z : PlacedToken). z.spot.token.kind) same ∙ h.4.1)))
   where

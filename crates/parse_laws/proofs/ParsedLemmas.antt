@@ -19,6 +19,7 @@ use Rattle.parse_source_laws.specs.Sources.{HandsOut, Orderly}
 use Rattle.parse_source_laws.proofs.SourceLemmas.{programs_read}
 use Rattle.ecma_parser.specs.Passed.{within, program_within}
 use Rattle.parse_laws.specs.Parsed.{DerivesList, Judges, ProgramsJudged}
+use Rattle.parse_laws.proofs.Passes.{no_tree}
 
 -- what derives a list is what is read of it, or nests deeper
 list_decided : (modules : Bool) (limit : ℕ) (placed : Bool) (syntax : EsSyntax) (t : Tree) (start : ℕ) (places : List PlacedToken) → InOrder start places → DerivesList placed modules syntax start places t
@@ -34,14 +35,7 @@ decided_at (Ok u) t P p h = ap Ok h
 decided_at (Err (Unexpected n)) t P p h = absurd h
 decided_at (Err (TooDeep n)) t P p h = absurd (p h)
 
-no_tree : {t : Tree} {e : Fault} → ◌≡◌ {A = Result Tree Fault} (Err e) (Ok t) → ⊥
-no_tree {t} {e} h = true≢false (sym (ap is_read h))
-  where
-    is_read : Result Tree Fault → Bool
-    is_read (Ok x) = true
-    is_read (Err x) = false
-
-tree_of : (u t : Tree) → ◌≡◌ {A = Result Tree Fault} (Ok u) (Ok t) → u ≡ t
+pub tree_of : (u t : Tree) → ◌≡◌ {A = Result Tree Fault} (Ok u) (Ok t) → u ≡ t
 tree_of u t h = ap (read_or u) h
   where
     read_or : Tree → Result Tree Fault → Tree

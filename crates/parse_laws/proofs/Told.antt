@@ -1,5 +1,6 @@
 -- Tokens that tile a text, and those that are handed out, tell of each word whether it is spelled with an escape by its span.
-use Rattle.std.proofs.Common.{◌≡◌, ◌≤◌, ℕ, zero, suc, ◌+◌, Bool, true, false, nat_le, List, [], ◌∷◌, Option, Some, None, inl, inr, refl, sym, ap, ◌∙◌, true≢false, arith}
+use Rattle.std.proofs.Common.{◌≡◌, ◌≤◌, ℕ, zero, suc, ◌+◌, Bool, true, false, nat_le, List, [], ◌∷◌, Option, Some, None, inl, inr, refl, sym, ap, ◌∙◌, arith}
+use Rattle.base_proofs.proofs.Lists.{nil_not_cons}
 use Rattle.base_token.specs.declared.context.Context.{Context}
 use Rattle.base_token.specs.Tokens.{Spot}
 use Rattle.lex_source.specs.Machine as tokens
@@ -7,7 +8,6 @@ use Rattle.lex_source.specs.Machine.{Source}
 use Rattle.lex_pieces.specs.Places.{bytes}
 use Rattle.lex_pieces.specs.declared.trivia.Goal.{Goal}
 use Rattle.grammar_spec.specs.Tokens.Input.{PlacedToken, template_goal, others}
-use Rattle.grammar_spec.specs.Reader.Source.{is_nil}
 use Rattle.parse_state.specs.Cursors.{Cursor, is_escaped, place_of, places, stream_of}
 use Rattle.parse_source_laws.specs.Sources.{HandsOut}
 use Rattle.lex_run_laws.proofs.Behind.{hashbang_behind, lexeme_behind}
@@ -50,9 +50,6 @@ tile_told start modules text ps (inr h) = after_told ps (start + bytes text) (wh
 
 -- ---- tokens that are handed out
 
-no_tokens : (p : PlacedToken) (ps : List PlacedToken) → ([] ≡ p ∷ ps) → ⊥
-no_tokens p ps e = true≢false (ap (λ z. is_nil z) e)
-
 abbrev first_or : PlacedToken → List PlacedToken → PlacedToken
 first_or d [] = d
 first_or d (p ∷ ps) = p
@@ -62,7 +59,7 @@ seen_so u p h = ap (λ (z : PlacedToken). place_of z.spot) (sym h) ∙ h
 
 module _ {S : Type 0} (m : tokens.Machine S) where
   seen_is : (n : ℕ) (f : Option Spot) (b : Option (Source S)) (p : PlacedToken) (rs : List PlacedToken) → places m n f b ≡ p ∷ rs → place_of p.spot ≡ p
-  seen_is n None b p rs e = absurd (no_tokens p rs e)
+  seen_is n None b p rs e = absurd (nil_not_cons p rs e)
   seen_is n (Some u) None p rs e = seen_so u p (ap (λ (z : List PlacedToken). first_or p z) e)
   seen_is zero (Some u) (Some s) p rs e = seen_so u p (ap (λ (z : List PlacedToken). first_or p z) e)
   seen_is (suc n) (Some u) (Some s) p rs e = seen_so u p (ap (λ (z : List PlacedToken). first_or p z) e)

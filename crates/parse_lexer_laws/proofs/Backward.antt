@@ -1,10 +1,11 @@
 -- A parser's stream over a source of tokens reads a slash again in its place, or the slash stays; so it is orderly backward too.
 use Rattle.std.proofs.Common.{◌≡◌, ◌⊎◌, ℕ, Bool, true, false, ◌&&◌, ◌||◌, cond, eqb, List, [], ◌∷◌, Option, None, Some, inl, inr, refl, sym, ap, ◌∙◌, subst, true≢false, eqb-true}
+use Rattle.base_proofs.proofs.Bools.{and_second, and_first}
+use Rattle.base_proofs.proofs.Lists.{nil_not_cons}
 use Rattle.base_token.specs.Kinds.{regex_kind, error_kind}
 use Rattle.base_token.specs.Tokens.{Spot}
 use Rattle.lex_source.specs.Machine.{Source, Machine}
 use Rattle.grammar_spec.specs.Tokens.Input.{PlacedToken}
-use Rattle.grammar_spec.specs.Reader.Source.{is_nil}
 use Rattle.parse_state.specs.Cursors.{Cursor, place_of, places, asked, withdrawn, read_on, same_break, in_place, reread_by, operand_by, stream_of}
 use Rattle.parse_source_laws.specs.Sources.{is_slash, Rereads}
 use Rattle.parse_source_laws.specs.Consumed.{Backward}
@@ -13,22 +14,11 @@ use Rattle.parse_lexer_laws.specs.Constant.{Constant, Before}
 use Rattle.parse_lexer_laws.specs.Backward.{ParserBackward, TokensConsumed}
 use Rattle.parse_lexer_laws.proofs.Orderly.{front, by_front, hands_back, orderly}
 
-no_tokens : (p : PlacedToken) (ps : List PlacedToken) → ([] ≡ p ∷ ps) → ⊥
-no_tokens p ps e = true≢false (ap (λ z. is_nil z) e)
-
 abbrev first_or : PlacedToken → List PlacedToken → PlacedToken
 first_or d [] = d
 first_or d (p ∷ ps) = p
 
 -- ---- what comes in a slash's place
-
-and_left : (a b : Bool) → (a && b) ≡ true → a ≡ true
-and_left true b e = refl
-and_left false b e = e
-
-and_right : (a b : Bool) → (a && b) ≡ true → b ≡ true
-and_right true b e = e
-and_right false b e = absurd (true≢false (sym e))
 
 one_of : (a b : Bool) → (a || b) ≡ true → (b ≡ true) ⊎ (a ≡ true)
 one_of true b e = inr refl
@@ -41,14 +31,14 @@ mark_is false false e = refl
 
 -- a regular expression in the slash's place, or a fault
 pub placed : (t u : Spot) → is_slash t.token.kind ≡ true → in_place t (Some u) ≡ true → (u.token.kind ≡ error_kind) ⊎ Rereads (place_of t) (place_of u)
-placed t u k e = by_kind (one_of (eqb u.token.kind regex_kind) (eqb u.token.kind error_kind) (and_left _ _ e))
+placed t u k e = by_kind (one_of (eqb u.token.kind regex_kind) (eqb u.token.kind error_kind) (and_first _ _ e))
   where
     there : (eqb u.lo t.lo && same_break u.line_break t.line_break) ≡ true
-    there = and_right (eqb u.token.kind regex_kind || eqb u.token.kind error_kind) (eqb u.lo t.lo && same_break u.line_break t.line_break) e
+    there = and_second (eqb u.token.kind regex_kind || eqb u.token.kind error_kind) (eqb u.lo t.lo && same_break u.line_break t.line_break) e
 
     by_kind : (eqb u.token.kind error_kind ≡ true) ⊎ (eqb u.token.kind regex_kind ≡ true) → (u.token.kind ≡ error_kind) ⊎ Rereads (place_of t) (place_of u)
     by_kind (inl i) = inl (eqb-true u.token.kind error_kind i)
-    by_kind (inr i) = inr (k, eqb-true u.token.kind regex_kind i, eqb-true u.lo t.lo (and_left _ _ there), mark_is u.line_break t.line_break (and_right (eqb u.lo t.lo) _ there))
+    by_kind (inr i) = inr (k, eqb-true u.token.kind regex_kind i, eqb-true u.lo t.lo (and_first _ _ there), mark_is u.line_break t.line_break (and_second (eqb u.lo t.lo) _ there))
 
 -- ---- backward
 
@@ -59,7 +49,7 @@ module _ {S : Type 0} {m : Machine S} {Good : Source S → Type 0} {Same : Sourc
   reread_on : (f : Option Spot) (s : Source S) (n : ℕ) (p o : PlacedToken) (ps os : List PlacedToken) → places m 2 f (Some s) ≡ p ∷ ps → is_slash p.spot.token.kind ≡ true
       → places m 2 (operand_by m f (Some s) (front f s n)).first (operand_by m f (Some s) (front f s n)).behind ≡ o ∷ os → Answers (front f s n) (operand_by m f (Some s) (front f s n)) p o
   unfolding Answers
-  reread_on None s n p o ps os e k h = absurd (no_tokens p ps e)
+  reread_on None s n p o ps os e k h = absurd (nil_not_cons p ps e)
   reread_on (Some t) s n p o ps os e k h = by_kind (is_slash t.token.kind) slash h
     where
       x : Option Spot × Source S
@@ -82,7 +72,7 @@ module _ {S : Type 0} {m : Machine S} {Good : Source S → Type 0} {Same : Sourc
           by_sort (inr z) = inr (inl z)
 
       by_token : (v : Option Spot) → in_place t v ≡ true → Says (read_on (v, asked None x.1) n)
-      by_token None i j = absurd (no_tokens o os j)
+      by_token None i j = absurd (nil_not_cons o os j)
       by_token (Some u) i j = taken u i (ap (λ y. first_or o y) j) (read_on (Some u, asked None x.1) n)
 
       by_place : (b : Bool) → in_place t x.0 ≡ b → Says (cond b (read_on (withdrawn x) n) (front (Some t) s n))

@@ -1,8 +1,9 @@
 -- A word with an escape takes more bytes than its text.
-use Rattle.std.proofs.Common.{◌≡◌, ◌≤◌, ◌<◌, ◌⊎◌, ⊎_elim, ℕ, ◌+◌, Bool, true, false, not, ◌&&◌, ◌==◌, List, [], ◌∷◌, ◌++◌, length-append, encode_utf8, encode_utf8_all, inl, inr, refl, sym, ap, ◌∙◌, subst, arith}
+use Rattle.std.proofs.Common.{◌≡◌, ◌≤◌, ◌<◌, ◌⊎◌, ℕ, ◌+◌, Bool, true, false, not, ◌&&◌, ◌==◌, List, [], ◌∷◌, ◌++◌, length-append, encode_utf8, encode_utf8_all, inl, inr, refl, sym, ap, ◌∙◌, subst, arith}
 use Rattle.std.specs.Char.{IsScalar, len_utf8}
-use Rattle.std.proofs.lemmas.Bool.{and_parts, cases_Bool, eqb-true, eq-eqb, le-leb}
+use Rattle.std.proofs.lemmas.Bool.{and_parts, eq-eqb, le-leb, not-true, ne_eqb}
 use Rattle.std.proofs.lemmas.Str.{length-encode, len_utf8_bounds}
+use Rattle.lex_run_laws.proofs.Owns.{bytes_append}
 use Rattle.base_token.specs.TokenViews.{token_kind_number}
 use Rattle.base_token.specs.Words.{kind_of}
 use Rattle.base_token.specs.declared.token.TokenKind.{TokenKind}
@@ -29,10 +30,6 @@ use Rattle.parse_lexer_laws.specs.Escapes.{EscapesTold}
 more : (c : ℕ) (cs : List ℕ) → bytes (c ∷ cs) ≡ len_utf8 c + bytes cs
 more c cs = length-append (encode_utf8 c) (encode_utf8_all cs) ∙ ap (λ (n : ℕ). n + bytes cs) (length-encode c)
 
-joined : (xs ys : List ℕ) → bytes (xs ++ ys) ≡ bytes xs + bytes ys
-joined [] ys = omega arith
-joined (x ∷ xs) ys = let a = more x (xs ++ ys) in let b = more x xs in let c = joined xs ys in omega (arith, a, b, c)
-
 tail_shorter : (c : ℕ) (cs : List ℕ) → 1 + bytes cs ≤ bytes (c ∷ cs)
 tail_shorter c cs = let a = more c cs in let b = len_utf8_bounds c in omega (arith, a, b.0)
 
@@ -45,7 +42,7 @@ digits_longer text v rest (inl h) = let e : bytes text ≡ bytes (h.0 ∷ h.1 �
     let a = tail_shorter h.0 (h.1 ∷ h.2 ∷ h.3 ∷ rest) in let b = tail_shorter h.1 (h.2 ∷ h.3 ∷ rest) in let c = tail_shorter h.2 (h.3 ∷ rest) in let d = tail_shorter h.3 rest in
     omega (arith, e, a, b, c, d)
 digits_longer text v rest (inr h) = let e : bytes text ≡ bytes (123 ∷ h.0 ++ 125 ∷ rest) = ap (λ (z : List ℕ). bytes z) h.1 in
-    let a = tail_shorter 123 (h.0 ++ 125 ∷ rest) in let b = joined h.0 (125 ∷ rest) in let c = some_bytes h.0 h.2 in let d = tail_shorter 125 rest in
+    let a = tail_shorter 123 (h.0 ++ 125 ∷ rest) in let b = bytes_append h.0 (125 ∷ rest) in let c = some_bytes h.0 h.2 in let d = tail_shorter 125 rest in
     omega (arith, e, a, b, c, d)
 
 escape_longer : (text : List ℕ) (c : ℕ) (rest : List ℕ) → IsEscape text c rest → len_utf8 c + bytes rest < bytes text
@@ -64,7 +61,7 @@ spelled_more first text c cs rest next h k = by_parts h.1 k
     by_parts : (text ≡ c ∷ next) ⊎ (IsScalar c × IsEscape text c next) → Spelled next cs rest → Spelled text (c ∷ cs) rest
     by_parts (inl e) (inl k) = inl (e ∙ ap (λ (z : List ℕ). c ∷ z) k)
     by_parts (inl e) (inr k) = inr (let f : bytes text ≡ bytes (c ∷ next) = ap (λ (z : List ℕ). bytes z) e in let a = more c next in let b = more c cs in omega (arith, f, a, b, k))
-    by_parts (inr e) (inl k) = inr (let f : bytes next ≡ bytes (cs ++ rest) = ap (λ (z : List ℕ). bytes z) k in let a = joined cs rest in let b = more c cs in let d = escape_longer text c next e.1 in omega (arith, f, a, b, d))
+    by_parts (inr e) (inl k) = inr (let f : bytes next ≡ bytes (cs ++ rest) = ap (λ (z : List ℕ). bytes z) k in let a = bytes_append cs rest in let b = more c cs in let d = escape_longer text c next e.1 in omega (arith, f, a, b, d))
     by_parts (inr e) (inr k) = inr (let b = more c cs in let d = escape_longer text c next e.1 in omega (arith, b, d, k))
 
 spelled : (first : Bool) (text cs rest : List ℕ) → Spell first text cs rest → Spelled text cs rest
@@ -73,17 +70,14 @@ spelled first text (c ∷ cs) rest h = spelled_more first text c cs rest h.0 h.1
 
 -- ---- words
 
-unequal : (a b : ℕ) → (a ≡ b → ⊥) → (a == b) ≡ false
-unequal a b n = ⊎_elim (λ (t : (a == b) ≡ true). absurd (n (eqb-true a b t))) (λ (f : (a == b) ≡ false). f) (cases_Bool (a == b))
-
 by_tests : (w q e : Bool) → w ≡ true → q ≡ not e → (w && not q) ≡ e
 by_tests w q true a b = rw (a, b) refl
 by_tests w q false a b = rw (a, b) refl
 
 marked : (end : ℕ) (text name rest : List ℕ) (e : Bool) → bytes text ≤ end → Spelled text name rest → IsMarked text name rest e → ((place end text + bytes name) == place end rest) ≡ not e
 marked end text name rest true h (inl k) m = absurd (m k)
-marked end text name rest true h (inr k) m = unequal (place end text + bytes name) (place end rest) (λ z. omega (arith, z, h, k))
-marked end text name rest false h k m = let f : bytes text ≡ bytes (name ++ rest) = ap (λ (z : List ℕ). bytes z) m in let a = joined name rest in eq-eqb (place end text + bytes name) (place end rest) (omega (arith, f, a, h))
+marked end text name rest true h (inr k) m = ne_eqb (place end text + bytes name) (place end rest) (λ z. omega (arith, z, h, k))
+marked end text name rest false h k m = let f : bytes text ≡ bytes (name ++ rest) = ap (λ (z : List ℕ). bytes z) m in let a = bytes_append name rest in eq-eqb (place end text + bytes name) (place end rest) (omega (arith, f, a, h))
 
 module _ (end : ℕ) (lb : Bool) (text rest : List ℕ) (h : bytes text ≤ end) where
   abbrev Told : SpecLexeme → Type 0
@@ -108,14 +102,10 @@ module _ (end : ℕ) (lb : Bool) (text rest : List ℕ) (h : bytes text ≤ end)
   wordless [] = true
   wordless (x ∷ xs) = not (is_word (token_kind_number x.1)) && wordless xs
 
-  not_true : (b : Bool) → not b ≡ true → b ≡ false
-  not_true true e = sym e
-  not_true false e = refl
-
   among : (xs : List Spelling) → wordless xs ≡ true → (s : List ℕ) (k : TokenKind) → IsAmong xs s k → is_word (token_kind_number k) ≡ false
   unfolding wordless
   among [] t s k a = absurd a
-  among (x ∷ xs) t s k (inl a) = subst (λ (z : TokenKind). is_word (token_kind_number z) ≡ false) a.1 (not_true (is_word (token_kind_number x.1)) (and_parts (not (is_word (token_kind_number x.1))) (wordless xs) t).0)
+  among (x ∷ xs) t s k (inl a) = subst (λ (z : TokenKind). is_word (token_kind_number z) ≡ false) a.1 (not-true (is_word (token_kind_number x.1)) (and_parts (not (is_word (token_kind_number x.1))) (wordless xs) t).0)
   among (x ∷ xs) t s k (inr a) = among xs (and_parts (not (is_word (token_kind_number x.1))) (wordless xs) t).1 s k a
 
   all_wordless : wordless punctuators ≡ true

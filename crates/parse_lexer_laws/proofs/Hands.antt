@@ -2,7 +2,7 @@
 use Rattle.std.proofs.Common.{◌≡◌, ◌⊎◌, ℕ, zero, suc, ◌+◌, Bool, true, false, cond, leb-true, List, [], ◌∷◌, ◌++◌, Option, Some, None, inl, inr, refl, sym, ap, ◌∙◌, subst, true≢false, arith}
 use Rattle.std.specs.Prelude.{◌==◌, nat_le}
 use Rattle.std.proofs.lemmas.Bool.{eqb-true}
-use Rattle.std.proofs.lemmas.Bool.Decides.{nat_tests}
+use Rattle.base_proofs.proofs.Bools.{eqb_same}
 use Rattle.base_token.specs.Kinds.{regex_kind}
 use Rattle.base_token.specs.Tokens.{Spot, bare}
 use Rattle.base_token.specs.TokenViews.{token_kind_number}
@@ -37,6 +37,7 @@ use Rattle.grammar_text_spec.specs.Tiled.{goal_at, whole, IsBefore, IsTile, AreT
 use Rattle.parse_lexer_laws.specs.Handed.{handed, AtStart, NewAtStart, TilesHanded, ReadHanded}
 use Rattle.parse_lexer_laws.proofs.Regions.{held, IsNoFault, At, no_goal, next, past_start}
 use Rattle.parse_lexer_laws.proofs.Takes.{Hands, take_none, take, take_again}
+use Rattle.parse_lexer_laws.proofs.Starts.{no_again, no_start}
 
 -- ---- a slash where a regular expression stands
 
@@ -57,9 +58,6 @@ slash_at (c ∷ cs) = slash_by c cs (c == 61) refl
 abbrev pub mk : ℕ → Settings → Last → Bool → List ℕ → State
 mk end u l br text = record { tokens = record { left = text; end = end; last = l; line_break = br }; settings = u }
 
-same_place : (n : ℕ) → (n == n) ≡ true
-same_place n = grind (arith, nat_tests)
-
 module _ (end : ℕ) (modules : Bool) where
   -- no slash is to be read again, and the text is of this goal
   record Fit (u : Settings) : Type 0 where
@@ -68,13 +66,6 @@ module _ (end : ℕ) (modules : Bool) where
 
   goal_is : (u : Settings) → Fit u → goal_of u.ctx ≡ whole modules
   goal_is u f = ap (λ (z : Bool). whole z) f.told
-
-  no_again : (l : Last) → again_by l None end ≡ None
-  no_again Start = refl
-  no_again (Slash from) = refl
-  no_again Characters = refl
-  no_again Fault = refl
-  no_again Other = refl
 
   step_of_last : (s new : State) (out : Option Spot) (l : Last) → IsNoFault l → IsStepBy (again s) s out new → IsStepOf l s out new
   step_of_last s new out Start n h = h
@@ -90,7 +81,7 @@ module _ (end : ℕ) (modules : Bool) where
     going : (out : Option Spot) (new : State) → Fit u → IsNoFault l → (goal : Option LexicalGoal) → template_goal u.contexts l ≡ goal → IsGoing goal here out new → IsStep here out new
     going out new f n goal e h = record {
       is = step_of_last here new out l n
-          (subst (λ (z : Option (List ℕ)). IsStepBy z here out new) (sym (ap (λ (z : Option ℕ). again_by l z end) f.unasked ∙ no_again l))
+          (subst (λ (z : Option (List ℕ)). IsStepBy z here out new) (sym (ap (λ (z : Option ℕ). again_by l z end) f.unasked ∙ no_again end l))
           (subst (λ (z : Option LexicalGoal). IsGoing z here out new) (sym e) h));
     }
 
@@ -113,9 +104,6 @@ module _ (end : ℕ) (modules : Bool) where
   abbrev Goes : List PlacedToken → Type 0
   Goes ps = (g : Region) (u : Settings) (l : Last) (br : Bool) (text : List ℕ) (first : Bool) → Fit u → At g u.contexts l → is_start l ≡ first → (is_start l ≡ true → NoHashbang text)
       → AreTiles end (whole modules) first text ps → over g ps ≡ Outside [] → Hands (handed ps) (mk end u l br text)
-
-  no_start : (k : ℕ) (from text : List ℕ) → is_start (last_after k from) ≡ true → NoHashbang text
-  no_start k from text e = absurd (true≢false (sym e ∙ past_start k from))
 
   module _ (p : PlacedToken) (ps : List PlacedToken) (k : Goes ps) (u : Settings) (l : Last) (br : Bool) (text : List ℕ) (first : Bool) (f : Fit u) (i : is_start l ≡ first) (n : is_start l ≡ true → NoHashbang text)
       (rest : List ℕ) (t : IsTile end (whole modules) first text p rest) (more : AreTiles end (whole modules) false rest ps) where
@@ -167,7 +155,7 @@ module _ (end : ℕ) (modules : Bool) where
         first_step = outside u l br text s (Some first_token) mid f at n first i t.0 t.1 skipped (inl (operator, r, inr (inr (refl, (kind, mark, refl))), refl, refl))
 
         again_here : again asked_mid ≡ Some t.1
-        again_here = ap (λ (z : Last). again_by z (Some (place end t.1)) end) known ∙ ap (λ (y : Bool). cond y (Some t.1) None) (same_place (place end t.1))
+        again_here = ap (λ (z : Last). again_by z (Some (place end t.1)) end) known ∙ ap (λ (y : Bool). cond y (Some t.1) None) (eqb_same (place end t.1))
 
         again_step : IsStep asked_mid (Some token) new
         again_step = record { is = subst (λ (z : Last). IsStepOf z asked_mid (Some token) new) (sym known) (subst (λ (z : Option (List ℕ)). IsStepBy z asked_mid (Some token) new) (sym again_here) (inl (t.2, rest, x, refl, refl))) }

@@ -1,3 +1,4 @@
+pub mod Starts
 pub mod Orderly
 pub mod Backward
 pub mod Lexes

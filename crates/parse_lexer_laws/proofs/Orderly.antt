@@ -1,10 +1,10 @@
 -- A parser's stream over a source of tokens: it is orderly.
-use Rattle.std.proofs.Common.{◌≡◌, ◌<◌, ◌≤◌, ◌+◌, ℕ, zero, suc, Bool, true, false, cond, List, [], ◌∷◌, Option, None, Some, option_map, inl, inr, refl, sym, ap, ◌∙◌, subst, true≢false, arith, le_refl}
+use Rattle.std.proofs.Common.{◌≡◌, ◌<◌, ◌≤◌, ◌+◌, ℕ, zero, suc, Bool, true, false, cond, List, [], ◌∷◌, Option, None, Some, option_map, inl, inr, refl, sym, ap, ◌∙◌, subst, arith, le_refl}
+use Rattle.base_proofs.proofs.Lists.{nil_not_cons}
 use Rattle.base_token.specs.declared.context.Context.{Context}
 use Rattle.base_token.specs.Tokens.{Spot}
 use Rattle.lex_source.specs.Machine.{Source, Machine}
 use Rattle.grammar_spec.specs.Tokens.Input.{PlacedToken, kind_of, hi_of, others}
-use Rattle.grammar_spec.specs.Reader.Source.{is_nil}
 use Rattle.parse_state.specs.Cursors.{Cursor, place_of, places, asked, withdrawn, told_of, in_place, read_on, after_by, reread_by, operand_by, one_in, bound_in, stream_of}
 use Rattle.parse_source_laws.specs.Sources.{is_slash, one, two, HandsOut, Orderly}
 use Rattle.parse_source_laws.proofs.SourceLemmas.{programs_read}
@@ -13,9 +13,6 @@ use Rattle.parse_lexer_laws.specs.Constant.{Falls, Constant, Before, ParserOrder
 -- before a source, where this token comes
 abbrev pub front : {S : Type 0} → Option Spot → Source S → ℕ → Cursor S
 front f s n = record { first = f; behind = Some s; last = n }
-
-no_tokens : (p : PlacedToken) (ps : List PlacedToken) → ([] ≡ p ∷ ps) → ⊥
-no_tokens p ps e = true≢false (ap (λ z. is_nil z) e)
 
 module _ {S : Type 0} {m : Machine S} {Good : Source S → Type 0} {Same : Source S → Source S → Type 0} {modules : Bool} (w : Constant m Good Same modules) where
   -- what holds of every cursor before a good source holds of every state of a parser
@@ -119,11 +116,11 @@ module _ {S : Type 0} {m : Machine S} {Good : Source S → Type 0} {Same : Sourc
   -- ---- one step
 
   behind_on : (f : Option Spot) (s : Source S) (n : ℕ) (p : PlacedToken) (ps : List PlacedToken) → places m 2 f (Some s) ≡ p ∷ ps → ps ≡ two (places m 2 (after_by m f (Some s) (front f s n)).first (after_by m f (Some s) (front f s n)).behind)
-  behind_on None s n p ps e = absurd (no_tokens p ps e)
+  behind_on None s n p ps e = absurd (nil_not_cons p ps e)
   behind_on (Some t) s n p ps e = sym (ap others e) ∙ two_places (m.step s).0 (m.step s).1
 
   ends_on : (f : Option Spot) (s : Source S) (n : ℕ) (p : PlacedToken) (ps : List PlacedToken) → places m 2 f (Some s) ≡ p ∷ ps → (after_by m f (Some s) (front f s n)).last ≡ p.spot.hi
-  ends_on None s n p ps e = absurd (no_tokens p ps e)
+  ends_on None s n p ps e = absurd (nil_not_cons p ps e)
   ends_on (Some t) s n p ps e = ap (λ z. hi_of 0 z) e
 
   plain_on : (f : Option Spot) (s : Source S) (n : ℕ) → is_slash (kind_of (places m 2 f (Some s))) ≡ false → operand_by m f (Some s) (front f s n) ≡ front f s n
@@ -161,7 +158,7 @@ module _ {S : Type 0} {m : Machine S} {Good : Source S → Type 0} {Same : Sourc
 
   falls_on : (f : Option Spot) (s : Source S) (n : ℕ) (p : PlacedToken) (ps : List PlacedToken) → Good s → places m 2 f (Some s) ≡ p ∷ ps
       → one_in (after_by m f (Some s) (front f s n)).first + bound_in m (after_by m f (Some s) (front f s n)).behind < one_in f + bound_in m (Some s)
-  falls_on None s n p ps g e = absurd (no_tokens p ps e)
+  falls_on None s n p ps g e = absurd (nil_not_cons p ps e)
   falls_on (Some t) s n p ps g e = step_falls (m.step s).0 (m.bound s.tokens) (m.bound (m.step s).1.tokens) (w.falls s g)
 
   operand_falls : (f : Option Spot) (s : Source S) (n : ℕ) → Good s

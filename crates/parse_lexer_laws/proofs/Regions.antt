@@ -2,6 +2,7 @@
 use Rattle.std.proofs.Common.{◌≡◌, ℕ, Bool, true, false, cond, ◌||◌, List, [], ◌∷◌, None, refl, sym, subst, true≢false, ⊎_elim}
 use Rattle.std.specs.Prelude.{◌==◌}
 use Rattle.std.proofs.lemmas.Bool.{cases_Bool, eqb-true}
+use Rattle.lex_run_laws.proofs.Standing.{opened_none}
 use Rattle.base_token.specs.Kinds.{left_brace_kind, right_brace_kind, back_quote_kind, template_kind, dollar_brace_kind, div_kind, div_assign_kind}
 use Rattle.lex_source.specs.declared.contexts.TokenContext.{TokenContext}
 use Rattle.lex_source.specs.declared.contexts.TokenContext.TheVariants.{TplQuasi, Tpl}
@@ -27,13 +28,9 @@ At Nowhere cs l = Unit {0}
 
 -- ---- the goal of the token that comes
 
-no_goal_in : (cs : List TokenContext) (l : Last) → template_goal (opened cs) l ≡ None
-no_goal_in [] l = refl
-no_goal_in (c ∷ cs) l = refl
-
 pub no_goal : (s : List Bool) (l : Last) → template_goal (held s) l ≡ None
 no_goal [] l = refl
-no_goal (false ∷ s) l = no_goal_in (held s) l
+no_goal (false ∷ s) l = opened_none (held s) l
 no_goal (true ∷ s) l = refl
 
 -- ---- behind a token

@@ -1,8 +1,9 @@
 -- A lexer knows the text of a slash that was its last token, and reads it again in its place.
-use Rattle.std.proofs.Common.{◌≡◌, ◌⊎◌, ⊎_elim, ℕ, Bool, true, false, cond, List, [], ◌∷◌, Option, Some, None, inl, inr, refl, sym, ap, ◌∙◌, subst, arith}
+use Rattle.std.proofs.Common.{◌≡◌, ◌⊎◌, ⊎_elim, ℕ, Bool, true, false, cond, List, [], ◌∷◌, Option, Some, None, inl, inr, refl, sym, ap, ◌∙◌, subst}
 use Rattle.std.specs.Prelude.{◌==◌}
 use Rattle.std.proofs.lemmas.Bool.{cases_Bool, false≢true, eqb-true}
-use Rattle.std.proofs.lemmas.Bool.Decides.{nat_tests}
+use Rattle.std.proofs.lemmas.Option.{same_Some}
+use Rattle.base_proofs.proofs.Bools.{eqb_same}
 use Rattle.base_token.specs.Kinds.{error_kind, regex_kind, template_kind}
 use Rattle.base_token.specs.Tokens.{Spot}
 use Rattle.lex_literal.specs.Escapes.{begins}
@@ -34,12 +35,12 @@ use Rattle.parse_lexer_laws.specs.Standing.{LastToken, LexerRereads, LexerConsum
 abbrev starts : List ℕ → Bool
 starts text = begins lexeme.is_slash text
 
-ending_apart : (e : Ending) → is_slash (ending_kind e) ≡ false
+pub ending_apart : (e : Ending) → is_slash (ending_kind e) ≡ false
 ending_apart BackQuote = refl
 ending_apart Substitution = refl
 
 -- a token of the goal Div that begins with no slash is one of the goal RegExp
-either_goal : (text : List ℕ) (x : SpecLexeme) (rest : List ℕ) → starts text ≡ false → IsLexeme Div text x rest → IsLexeme RegExp text x rest
+pub either_goal : (text : List ℕ) (x : SpecLexeme) (rest : List ℕ) → starts text ≡ false → IsLexeme Div text x rest → IsLexeme RegExp text x rest
 either_goal text x rest n (inl h) = inl h
 either_goal text x rest n (inr (inl h)) = absurd (false≢true h.0)
 either_goal text x rest n (inr (inr h)) = inr (inr (n, h.1))
@@ -57,7 +58,7 @@ starts_so TemplateEnd text x rest h e = absurd (false≢true (sym (ap (λ (z : S
 not_at : (P : ℕ → Bool) (c : ℕ) → (c == 47) ≡ true → P 47 ≡ false → P c ≡ true → ⊥
 not_at P c e n h = false≢true (sym n ∙ (ap P (sym (eqb-true c 47 e)) ∙ h))
 
-not_ordinary : (text : List ℕ) (x : SpecLexeme) (rest : List ℕ) → starts text ≡ true → IsOrdinary text x rest → ⊥
+pub not_ordinary : (text : List ℕ) (x : SpecLexeme) (rest : List ℕ) → starts text ≡ true → IsOrdinary text x rest → ⊥
 not_ordinary [] x rest e h = false≢true e
 not_ordinary (c ∷ cs) x rest e (inl h) = let q = sym (sort_word RegExp (c ∷ cs) (word_begins (c ∷ cs) h.0 rest h.2)) ∙ pattern_sort RegExp c cs e in cc
 not_ordinary (c ∷ cs) x rest e (inr (inl h)) = not_at (λ z. is_number_start (z ∷ cs)) c e refl (numeral_starts h.0 h.1 (c ∷ cs) rest h.2)
@@ -70,7 +71,7 @@ reads_pattern text x rest e (inr (inr h)) = absurd (false≢true (sym h.0 ∙ e)
 
 -- ---- a slash is the last token behind it
 
-slash_last : (kind : ℕ) (from : List ℕ) → is_slash kind ≡ true → last_after kind from ≡ Slash from
+pub slash_last : (kind : ℕ) (from : List ℕ) → is_slash kind ≡ true → last_after kind from ≡ Slash from
 slash_last kind from e = ⊎_elim
     (λ (t : (kind == template_kind) ≡ true). absurd (false≢true (sym (ap (λ (k : ℕ). is_slash k) (eqb-true kind template_kind t)) ∙ e)))
     (λ (f : (kind == template_kind) ≡ false). rw f (rw e refl))
@@ -129,9 +130,6 @@ told_last (Some t) s r e h = λ k. let l = h k in (l.0, sym (ap (λ z. z.last) e
 
 -- ---- a slash that is read again
 
-some_is : (x y : Spot) → Some x ≡ Some y → x ≡ y
-some_is x y e = cc
-
 no_some : (x : Spot) → None ≡ Some x → ⊥
 no_some x e = cc
 
@@ -141,16 +139,13 @@ module _ (t p : Spot) (s new : State) (from : List ℕ) (b : Bool) (k : is_slash
   there i j h = in_place_at t p (i ∙ sym lo) (j ∙ sym breaks) h
 
   read_again : (out : Option Spot) → out ≡ Some p → IsRead RegExp b from s out new → in_place t (Some p) ≡ true
-  read_again out e (inl h) = let q = some_is _ _ (sym e ∙ h.3) in
+  read_again out e (inl h) = let q = same_Some _ _ (sym e ∙ h.3) in
       there (ap (λ (z : Spot). z.lo) q) (ap (λ (z : Spot). z.line_break) q) (inl (ap (λ (z : Spot). z.token.kind) q ∙ reads_pattern from h.0 h.1 starts_here h.2))
-  read_again out e (inr (inl h)) = let q = some_is _ _ (sym e ∙ h.2) in there (ap (λ (z : Spot). z.lo) q) (ap (λ (z : Spot). z.line_break) q) (inr (ap (λ (z : Spot). z.token.kind) q))
+  read_again out e (inr (inl h)) = let q = same_Some _ _ (sym e ∙ h.2) in there (ap (λ (z : Spot). z.lo) q) (ap (λ (z : Spot). z.line_break) q) (inr (ap (λ (z : Spot). z.token.kind) q))
   read_again out e (inr (inr h)) = absurd (no_some p (sym h.1 ∙ e))
 
-same_place : (n : ℕ) → (n == n) ≡ true
-same_place n = grind (arith, nat_tests)
-
 again_from : (a : State) (last : Last) (from : List ℕ) (n : ℕ) → last ≡ Slash from → n ≡ place a.tokens.end from → again_by last (Some n) a.tokens.end ≡ Some from
-again_from a last from n e i = ap (λ z. again_by z (Some n) a.tokens.end) e ∙ (ap (λ (z : ℕ). again_by (Slash from) (Some z) a.tokens.end) i ∙ ap (λ (y : Bool). cond y (Some from) None) (same_place (place a.tokens.end from)))
+again_from a last from n e i = ap (λ z. again_by z (Some n) a.tokens.end) e ∙ (ap (λ (z : ℕ). again_by (Slash from) (Some z) a.tokens.end) i ∙ ap (λ (y : Bool). cond y (Some from) None) (eqb_same (place a.tokens.end from)))
 
 slash_again : (t p : Spot) (s : State) → LastToken (Some t) s → is_slash t.token.kind ≡ true → (step_of (asked (Some t.lo) s)).0 ≡ Some p → in_place t (Some p) ≡ true
 unfolding step_of

@@ -1,7 +1,7 @@
 -- How a token is handed out: it comes, or a slash comes that is read again as it.
-use Rattle.std.proofs.Common.{◌≡◌, ◌⊎◌, ℕ, Bool, true, false, ◌&&◌, ◌||◌, cond, List, [], ◌∷◌, Option, Some, None, inl, inr, refl, sym, ap, ◌∙◌, subst, arith}
+use Rattle.std.proofs.Common.{◌≡◌, ◌⊎◌, ℕ, Bool, true, false, ◌&&◌, ◌||◌, cond, List, [], ◌∷◌, Option, Some, None, inl, inr, refl, sym, ap, ◌∙◌, subst}
 use Rattle.std.specs.Prelude.{◌==◌}
-use Rattle.std.proofs.lemmas.Bool.Decides.{nat_tests}
+use Rattle.base_proofs.proofs.Bools.{eqb_same}
 use Rattle.base_token.specs.Kinds.{regex_kind, error_kind}
 use Rattle.base_token.specs.Tokens.{Spot}
 use Rattle.lex_source.specs.Machine as tokens
@@ -17,9 +17,6 @@ use Rattle.parse_lexer_laws.proofs.Orderly.{front}
 
 -- ---- a regular expression in a slash's place
 
-same_place : (n : ℕ) → (n == n) ≡ true
-same_place n = grind (arith, nat_tests)
-
 same_marks : (a : Bool) → same_break a a ≡ true
 same_marks true = refl
 same_marks false = refl
@@ -31,7 +28,7 @@ in_place_at q t e f h = by_kind h
     there : ((t.lo == q.lo) && same_break t.line_break q.line_break) ≡ true
     there = subst (λ (n : ℕ). ((n == q.lo) && same_break t.line_break q.line_break) ≡ true) (sym e)
         (subst (λ (b : Bool). ((q.lo == q.lo) && same_break b q.line_break) ≡ true) (sym f)
-        (subst (λ (b : Bool). (b && same_break q.line_break q.line_break) ≡ true) (sym (same_place q.lo)) (same_marks q.line_break)))
+        (subst (λ (b : Bool). (b && same_break q.line_break q.line_break) ≡ true) (sym (eqb_same q.lo)) (same_marks q.line_break)))
 
     by_kind : (t.token.kind ≡ regex_kind) ⊎ (t.token.kind ≡ error_kind) → in_place q (Some t) ≡ true
     by_kind (inl k) = subst (λ (n : ℕ). (((n == regex_kind) || (n == error_kind)) && ((t.lo == q.lo) && same_break t.line_break q.line_break)) ≡ true) (sym k) there

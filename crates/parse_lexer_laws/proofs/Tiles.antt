@@ -1,9 +1,10 @@
 -- Tokens that a lexer at its start hands out tile the text.
-use Rattle.std.proofs.Common.{◌≡◌, ◌⊎◌, ⊎_elim, ℕ, zero, suc, ◌+◌, Bool, true, false, cond, leb-true, List, [], ◌∷◌, Option, Some, None, inl, inr, refl, sym, ap, ◌∙◌, subst, true≢false, arith}
+use Rattle.std.proofs.Common.{◌≡◌, ◌⊎◌, ⊎_elim, ℕ, zero, suc, ◌+◌, Bool, true, false, cond, leb-true, List, [], ◌∷◌, Option, Some, None, inl, inr, refl, sym, ap, ◌∙◌, subst, arith}
 use Rattle.std.specs.Prelude.{◌==◌, nat_le}
 use Rattle.std.proofs.lemmas.Bool.{cases_Bool, false≢true, eqb-true, or_cases}
-use Rattle.std.proofs.lemmas.Bool.Decides.{nat_tests}
-use Rattle.base_token.specs.Kinds.{div_kind, div_assign_kind, error_kind, regex_kind, template_kind}
+use Rattle.std.proofs.lemmas.Option.{same_Some}
+use Rattle.base_proofs.proofs.Bools.{eqb_same}
+use Rattle.base_token.specs.Kinds.{div_kind, div_assign_kind, error_kind, regex_kind}
 use Rattle.base_token.specs.Tokens.{Spot}
 use Rattle.base_token.specs.TokenViews.{token_kind_number}
 use Rattle.base_token.specs.declared.token.TokenKind.{TokenKind}
@@ -15,17 +16,11 @@ use Rattle.lex_pieces.specs.Punctuators.{IsPunctuator}
 use Rattle.lex_pieces.specs.Trivia.{IsHashbang, IsSkipped, NoHashbang}
 use Rattle.lex_pieces.specs.declared.trivia.Goal.{Goal}
 use Rattle.lex_pieces.proofs.Longest.{one_punctuator}
-use Rattle.lex_literal.specs.declared.template.Ending.{Ending}
-use Rattle.lex_literal.specs.declared.template.Ending.TheVariants.{BackQuote, Substitution}
 use Rattle.lex_literal.specs.Escapes.{begins}
-use Rattle.lex_literal.specs.Numbers.{is_number_start}
-use Rattle.lex_literal.specs.Strings.{is_quote}
-use Rattle.lex_literal.proofs.NumeralLemmas.{numeral_starts}
 use Rattle.lex_token.specs.declared.goal.LexicalGoal.{LexicalGoal}
 use Rattle.lex_token.specs.declared.goal.LexicalGoal.TheVariants.{Div, RegExp, TemplateTail, TemplateEnd}
-use Rattle.lex_token.specs.Lexemes.{SpecLexeme, IsLexeme, IsOrdinary, ending_kind}
+use Rattle.lex_token.specs.Lexemes.{SpecLexeme, IsLexeme}
 use Rattle.lex_token.specs.Sorts as lexeme
-use Rattle.lex_token.proofs.SortLemmas.{pattern_sort, sort_word, string_begins, word_begins}
 use Rattle.lex_source.specs.Settings.{Settings}
 use Rattle.lex_source.specs.declared.contexts.TokenContext.{TokenContext}
 use Rattle.lex_source.specs.declared.contexts.TokenContext.TheVariants.{Tpl}
@@ -46,26 +41,13 @@ use Rattle.parse_lexer_laws.specs.Tiled.{SameSpots, HandedTile, DerivedTile}
 use Rattle.parse_lexer_laws.proofs.Regions.{held, IsNoFault, At, no_goal, next, past_start}
 use Rattle.parse_lexer_laws.proofs.Untakes.{Took, Comes, untake, untake_none}
 use Rattle.parse_lexer_laws.proofs.Hands.{IsSlash, slash_at, mk, start_as, matched}
+use Rattle.parse_lexer_laws.proofs.Starts.{no_again, no_start}
+use Rattle.parse_lexer_laws.proofs.Slashes.{ending_apart, either_goal, not_ordinary, slash_last}
 
 -- ---- lexemes under both goals
 
 abbrev starts : List ℕ → Bool
 starts text = begins lexeme.is_slash text
-
--- a token that begins with no slash is the same where a slash opens a regular expression
-either_goal : (text : List ℕ) (x : SpecLexeme) (rest : List ℕ) → starts text ≡ false → IsLexeme Div text x rest → IsLexeme RegExp text x rest
-either_goal text x rest n (inl h) = inl h
-either_goal text x rest n (inr (inl h)) = absurd (false≢true h.0)
-either_goal text x rest n (inr (inr h)) = inr (inr (n, h.1))
-
-not_at : (P : ℕ → Bool) (c : ℕ) → (c == 47) ≡ true → P 47 ≡ false → P c ≡ true → ⊥
-not_at P c e n h = false≢true (sym n ∙ (ap P (sym (eqb-true c 47 e)) ∙ h))
-
-not_ordinary : (text : List ℕ) (x : SpecLexeme) (rest : List ℕ) → starts text ≡ true → IsOrdinary text x rest → ⊥
-not_ordinary [] x rest e h = false≢true e
-not_ordinary (c ∷ cs) x rest e (inl h) = let q = sym (sort_word RegExp (c ∷ cs) (word_begins (c ∷ cs) h.0 rest h.2)) ∙ pattern_sort RegExp c cs e in cc
-not_ordinary (c ∷ cs) x rest e (inr (inl h)) = not_at (λ z. is_number_start (z ∷ cs)) c e refl (numeral_starts h.0 h.1 (c ∷ cs) rest h.2)
-not_ordinary (c ∷ cs) x rest e (inr (inr h)) = not_at is_quote c e refl (string_begins h.0 h.2 (c ∷ cs) rest h.3)
 
 slash_is : (text : List ℕ) (kind : TokenKind) (rest : List ℕ) → IsSlash text → IsPunctuator text kind rest → is_slash (token_kind_number kind) ≡ true
 slash_is text kind rest (inl h) p = subst (λ (z : TokenKind). is_slash (token_kind_number z) ≡ true) (one_punctuator text (BinOp b.Div) kind h.0 rest h.1 p).0 refl
@@ -91,15 +73,6 @@ slash_unusual k s e = ⊎_elim
 regex_usual : (k g : ℕ) → k ≡ regex_kind → usual k g ≡ true → g ≡ 1
 regex_usual k g r e = eqb-true g 1 (subst (λ (z : ℕ). usual z g ≡ true) r e)
 
-slash_last : (kind : ℕ) (from : List ℕ) → is_slash kind ≡ true → last_after kind from ≡ Slash from
-slash_last kind from e = ⊎_elim
-    (λ (t : (kind == template_kind) ≡ true). absurd (false≢true (sym (ap (λ (k : ℕ). is_slash k) (eqb-true kind template_kind t)) ∙ e)))
-    (λ (f : (kind == template_kind) ≡ false). rw f (rw e refl))
-    (cases_Bool (kind == template_kind))
-
-same_place : (n : ℕ) → (n == n) ≡ true
-same_place n = grind (arith, nat_tests)
-
 -- ---- steps, backwards
 
 step_made : (s : State) → IsStep s (step_of s).0 (step_of s).1
@@ -109,9 +82,6 @@ step_made s = (always_steps s).2
 made : (s : State) (out : Option Spot) → (step_of s).0 ≡ out → IsStep s out (step_of s).1
 made s out e = subst (λ (z : Option Spot). IsStep s z (step_of s).1) e (step_made s)
 
-some_is : (x y : Spot) → Some x ≡ Some y → x ≡ y
-some_is x y e = cc
-
 no_some : (x : Spot) → Some x ≡ None → ⊥
 no_some x e = cc
 
@@ -120,21 +90,14 @@ abbrev Lexed : State → LexicalGoal → Bool → List ℕ → Spot → State �
 Lexed s goal lb from t new = (x : SpecLexeme) × (rest : List ℕ) × IsLexeme goal from x rest × (t ≡ spot_at s.tokens.end lb x.token from rest) × (new ≡ behind s lb from x rest)
 
 read_back : (s new : State) (goal : LexicalGoal) (lb : Bool) (from : List ℕ) (t : Spot) → (t.token.kind ≡ error_kind → ⊥) → IsRead goal lb from s (Some t) new → Lexed s goal lb from t new
-read_back s new goal lb from t n (inl h) = (h.0, h.1, h.2, some_is _ _ h.3, h.4)
-read_back s new goal lb from t n (inr (inl h)) = absurd (n (ap (λ (z : Spot). z.token.kind) (some_is _ _ h.2)))
+read_back s new goal lb from t n (inl h) = (h.0, h.1, h.2, same_Some _ _ h.3, h.4)
+read_back s new goal lb from t n (inr (inl h)) = absurd (n (ap (λ (z : Spot). z.token.kind) (same_Some _ _ h.2)))
 read_back s new goal lb from t n (inr (inr h)) = absurd (no_some t h.1)
 
 read_end : (s new : State) (lb : Bool) (from : List ℕ) → IsRead Div lb from s None new → from ≡ []
 read_end s new lb from (inl h) = absurd (no_some _ (sym h.3))
 read_end s new lb from (inr (inl h)) = absurd (no_some _ (sym h.2))
 read_end s new lb from (inr (inr h)) = h.0.1
-
-no_again : (end : ℕ) (l : Last) → again_by l None end ≡ None
-no_again end Start = refl
-no_again end (Slash from) = refl
-no_again end Characters = refl
-no_again end Fault = refl
-no_again end Other = refl
 
 last_back : (s new : State) (out : Option Spot) (l : Last) → IsNoFault l → IsStepOf l s out new → IsStepBy (again s) s out new
 last_back s new out Start n h = h
@@ -169,7 +132,7 @@ module _ (end : ℕ) (modules : Bool) (u : Settings) (l : Last) (br : Bool) (tex
 
     plain_back : (t : Spot) (new : State) → (t.token.kind ≡ error_kind → ⊥) → IsPlain here (Some t) new → Read t new
     plain_back t new n (inl h) = (h.0, h.1, skipped_so h.0 h.1 h.2, read_back here new Div h.0 h.1 t n h.3)
-    plain_back t new n (inr h) = absurd (n (ap (λ (z : Spot). z.token.kind) (some_is _ _ h.2)))
+    plain_back t new n (inr h) = absurd (n (ap (λ (z : Spot). z.token.kind) (same_Some _ _ h.2)))
 
     plain_end : (new : State) → IsPlain here None new → (lb : Bool) × IsSkipped (whole modules) first text lb []
     plain_end new (inl h) = (h.0, subst (λ (z : List ℕ). IsSkipped (whole modules) first text h.0 z) (read_end here new h.0 h.1 h.3) (skipped_so h.0 h.1 h.2))
@@ -200,9 +163,6 @@ module _ (end : ℕ) (modules : Bool) where
   Back ps = (g : Region) (u : Settings) (l : Last) (br : Bool) (text : List ℕ) (first : Bool) → u.next_regexp ≡ None → u.ctx.module_ ≡ modules → At g u.contexts l → is_start l ≡ first
       → (is_start l ≡ true → NoHashbang text) → over g ps ≡ Outside [] → Comes (handed ps) (mk end u l br text) → Tiles first text ps
 
-  no_start : (k : ℕ) (from text : List ℕ) → is_start (last_after k from) ≡ true → NoHashbang text
-  no_start k from text e = absurd (true≢false (sym e ∙ past_start k from))
-
   module _ (p : PlacedToken) (ps : List PlacedToken) (k : Back ps) (g : Region) (first : Bool) (text : List ℕ) (o : over (after g p.spot.token.kind) ps ≡ Outside []) where
     -- a token in front of what tiles the rest
     on : (u : Settings) (br : Bool) (from : List ℕ) (x : SpecLexeme) (rest : List ℕ) → u.next_regexp ≡ None → u.ctx.module_ ≡ modules → At (after g x.token.kind) u.contexts (last_after x.token.kind from)
@@ -232,7 +192,7 @@ reread s new from t e i n h = read_back s new RegExp s.tokens.line_break from t 
     (subst (λ (z : Option (List ℕ)). IsStepBy z s (Some t) new) here (subst (λ (z : Last). IsStepOf z s (Some t) new) e h.is))
   where
     here : again s ≡ Some from
-    here = ap (λ (z : Last). again_by z s.settings.next_regexp s.tokens.end) e ∙ (ap (λ (z : Option ℕ). again_by (Slash from) z s.tokens.end) i ∙ ap (λ (y : Bool). cond y (Some from) None) (same_place (place s.tokens.end from)))
+    here = ap (λ (z : Last). again_by z s.settings.next_regexp s.tokens.end) e ∙ (ap (λ (z : Option ℕ). again_by (Slash from) z s.tokens.end) i ∙ ap (λ (y : Bool). cond y (Some from) None) (eqb_same (place s.tokens.end from)))
 
 module _ (end : ℕ) (modules : Bool) (p : PlacedToken) (ps : List PlacedToken) (k : Back end modules ps) (u : Settings) (l : Last) (br : Bool) (text : List ℕ) (first : Bool) (un : u.next_regexp ≡ None) (md : u.ctx.module_ ≡ modules)
     (i : is_start l ≡ first) (sound : p.spot.token.kind ≡ error_kind → ⊥) where
@@ -297,10 +257,6 @@ module _ (end : ℕ) (modules : Bool) (p : PlacedToken) (ps : List PlacedToken) 
         on end modules p ps k g first text o (behind stand false text r.0 r.1).settings false text r.0 r.1 un md (next text g u.contexts l r.0.token.kind at) r.3
         (subst (λ (z : State). Comes (handed ps) z) r.4 (p.spot.hi, h.1)) w.0 w.1
     template_back (inr h) = absurd (no_slash_in h.0 h.2 (read_in h.0 (no_error h.0 h.2) h.1))
-
-ending_apart : (e : Ending) → is_slash (ending_kind e) ≡ false
-ending_apart BackQuote = refl
-ending_apart Substitution = refl
 
 tail_apart : (text : List ℕ) (x : SpecLexeme) (rest : List ℕ) → IsLexeme TemplateTail text x rest → is_slash x.token.kind ≡ false
 tail_apart text x rest h = ap (λ (z : SpecLexeme). is_slash z.token.kind) h.6
@@ -370,12 +326,12 @@ module _ (end : ℕ) (modules : Bool) where
       same out e = one_step opening (step_of opening).1 past out (Some token) (made opening out e) its
 
       no_slash_first : (q : Spot) → is_slash q.token.kind ≡ true → (step_of opening).0 ≡ Some q → ⊥
-      no_slash_first q s e = false≢true (sym (ap (λ (z : Spot). is_slash z.token.kind) (some_is q token (same (Some q) e).0)) ∙ s)
+      no_slash_first q s e = false≢true (sym (ap (λ (z : Spot). is_slash z.token.kind) (same_Some q token (same (Some q) e).0)) ∙ s)
 
       line_back : (p : PlacedToken) (ps : List PlacedToken) → over (Outside []) (p ∷ ps) ≡ Outside [] → Took lexer_machine (step_of opening).0 (step_of opening).1 p.spot (handed ps) → Whole (p ∷ ps)
-      line_back p ps o (inl h) = let k = same (Some p.spot) h.0 in let e : p.spot ≡ token = some_is p.spot token k.0 in
+      line_back p ps o (inl h) = let k = same (Some p.spot) h.0 in let e : p.spot ≡ token = same_Some p.spot token k.0 in
           let z = back ps (after (Outside []) (shebang own).token.kind) past.settings (last_after (shebang own).token.kind text) false rest false un md
-          (next text (Outside []) u.contexts Start (shebang own).token.kind (at, tt)) (past_start (shebang own).token.kind text) (no_start end modules (shebang own).token.kind text rest)
+          (next text (Outside []) u.contexts Start (shebang own).token.kind (at, tt)) (past_start (shebang own).token.kind text) (no_start (shebang own).token.kind text rest)
           (subst (λ (y : Spot). over (after (Outside []) y.token.kind) ps ≡ Outside []) e (fits_on (Outside []) p ps o).1) (subst (λ (y : State). Comes (handed ps) y) k.1 (p.spot.hi, h.1)) in
           (marked p (shebang own) ∷ z.0, (refl, refl, refl, z.1), inr (rest, (own, line, e, refl), z.2))
       line_back p ps o (inr h) = absurd (no_slash_first h.0 h.2 h.1)

@@ -1,10 +1,10 @@
 -- What was handed out: the token came, or a slash came that was read again as it.
 use Rattle.std.proofs.Common.{◌≡◌, ◌⊎◌, ℕ, zero, suc, Bool, true, false, cond, List, [], ◌∷◌, Option, Some, None, inl, inr, refl, sym, ap, ◌∙◌, subst, true≢false}
+use Rattle.base_proofs.proofs.Lists.{nil_not_cons, cons_not_nil}
 use Rattle.base_token.specs.Tokens.{Spot}
 use Rattle.lex_source.specs.Machine as tokens
 use Rattle.lex_source.specs.Machine.{Source}
 use Rattle.grammar_spec.specs.Tokens.Input.{PlacedToken}
-use Rattle.grammar_spec.specs.Reader.Source.{is_nil}
 use Rattle.lex_step_laws.specs.States.{State}
 use Rattle.ecma_lexer.specs.Machine.{step_of, lexer_machine}
 use Rattle.parse_state.specs.Cursors.{Cursor, place_of, places, asked, withdrawn, in_place, read_on, after_by, reread_by, operand_by, stream_of}
@@ -15,21 +15,15 @@ abbrev spot_or : Spot → List PlacedToken → Spot
 spot_or d [] = d
 spot_or d (p ∷ ps) = p.spot
 
-no_tokens : (p : PlacedToken) (ps : List PlacedToken) → ([] ≡ p ∷ ps) → ⊥
-no_tokens p ps e = true≢false (ap (λ z. is_nil z) e)
-
-no_more : (p : PlacedToken) (ps : List PlacedToken) → (p ∷ ps ≡ []) → ⊥
-no_more p ps e = true≢false (ap (λ z. is_nil z) (sym e))
-
 module _ {S : Type 0} (m : tokens.Machine S) where
   first_is : (n : ℕ) (f : Option Spot) (s : Source S) (p : PlacedToken) (rs : List PlacedToken) → places m n f (Some s) ≡ p ∷ rs → f ≡ Some p.spot
-  first_is n None s p rs e = absurd (no_tokens p rs e)
+  first_is n None s p rs e = absurd (nil_not_cons p rs e)
   first_is zero (Some u) s p rs e = ap (λ (z : List PlacedToken). Some (spot_or u z)) e
   first_is (suc n) (Some u) s p rs e = ap (λ (z : List PlacedToken). Some (spot_or u z)) e
 
   none_is : (f : Option Spot) (s : Source S) → places m 2 f (Some s) ≡ [] → f ≡ None
   none_is None s e = refl
-  none_is (Some u) s e = absurd (no_more (place_of u) (places m 1 (m.step s).0 (Some (m.step s).1)) e)
+  none_is (Some u) s e = absurd (cons_not_nil (place_of u) (places m 1 (m.step s).0 (Some (m.step s).1)) e)
 
   -- The token came; or a slash came that was read again as it. Behind it these come.
   abbrev pub Took : Option Spot → Source S → Spot → List PlacedToken → Type 0
@@ -46,7 +40,7 @@ module _ {S : Type 0} (m : tokens.Machine S) where
       → HandsOut (stream_of m) ps (after_by m (operand_by m f (Some s) (front f s n)).first (operand_by m f (Some s) (front f s n)).behind (operand_by m f (Some s) (front f s n)))
       → (u : Spot) × (f ≡ Some u) × (is_slash u.token.kind ≡ true) × Rereads (place_of u) (place_of t) × ((m.step (asked (Some u.lo) s)).0 ≡ Some t)
       × HandsOut (stream_of m) ps (read_on (m.step (asked None (m.step (asked (Some u.lo) s)).1)) t.hi)
-  came_again None s n t q qs rs ps e r i h = absurd (no_tokens q qs e)
+  came_again None s n t q qs rs ps e r i h = absurd (nil_not_cons q qs e)
   came_again (Some u) s n t q qs rs ps e r i h = (u, refl, slash, (slash, r.1, r.2 ∙ sym (ap (λ (z : Spot). z.lo) here), r.3 ∙ sym (ap (λ (z : Spot). z.line_break) here)), z.0, z.1)
     where
       here : u ≡ q.spot

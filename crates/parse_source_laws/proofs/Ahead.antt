@@ -1,5 +1,6 @@
 -- Two lists that go on alike as far as they are read: what is read of the one is read of the other.
 use Rattle.std.proofs.Common.{◌≡◌, ◌≤◌, ◌+◌, ℕ, zero, suc, Bool, true, false, not, ◌&&◌, ◌||◌, ◌==◌, if◌then◌else◌, eqb, nat_le, nat_lt, List, [], ◌∷◌, ◌++◌, length, Result, Ok, codes, bytes_eq, inl, inr, refl, sym, ap, ap₂, ◌∙◌, subst, true≢false, arith, eqb-true, le-leb}
+use Rattle.base_proofs.proofs.Bools.{and_first, and_false}
 use Rattle.base_token.specs.Kinds.{end_kind, right_brace_kind, left_brace_kind, left_paren_kind, dot_kind, comma_kind, question_mark_kind, arrow_kind, async_kind, assign_kind, mul_kind, from_kind, with_kind}
 use Rattle.tree_spec.specs.Tree.{Tree}
 use Rattle.grammar_spec.specs.Tokens.Input.{PlacedToken, Input, Code, kind, kind_of, break_of, others, hi_of, text_in, is_word, always_reserved, operator_word, barred}
@@ -13,7 +14,7 @@ use Rattle.grammar_spec.specs.Reader.Reading.{readers}
 use Rattle.parse_source_laws.specs.Sources.{is_slash, one, two, HandsOut, Orderly}
 use Rattle.parse_source_laws.specs.Laws.{SameRead, SameParts}
 use Rattle.parse_source_laws.specs.Ahead.{ends_async, Named, dots, heads, SameNext, Instead, InsteadOfAny, at_list, PartsAhead, OneAhead}
-use Rattle.parse_source_laws.proofs.Beside.{lm, on, and_left}
+use Rattle.parse_source_laws.proofs.Beside.{lm, on}
 use Rattle.parse_source_laws.proofs.SourceLemmas.{parts_read}
 use Rattle.parse_source_laws.proofs.Pairs.{edge_by, edge, is_param, Loose, Pairing, Paired}
 use Rattle.parse_source_laws.proofs.Backs.{closed, calm, Good, Path, Moved, Backed, Echoed}
@@ -21,6 +22,7 @@ use Rattle.parse_source_laws.proofs.ConsumedExpressions.{key_by_backed, paramete
 use Rattle.parse_source_laws.proofs.ConsumedStatements.{pattern_prop_backed}
 use Rattle.parse_source_laws.proofs.ConsumedModules.{item_by_backed}
 use Rattle.parse_source_laws.proofs.ConsumedLemmas.{readers_echoed}
+use Rattle.parse_source_laws.proofs.ConsumedParts.{edge_open}
 
 -- ---- a source that shows three tokens of a list
 
@@ -231,10 +233,6 @@ pause_told : (c : Code) (e : ℕ) (l v : List PlacedToken) → firsts 1 l ≡ fi
 pause_told c e l v i = by_first (λ l v. pauses c e (record { last = 0; places = l }) ≡ pauses c e (record { last = 0; places = three v })) refl
     (λ p l v. pause_one c e p l (two v)) 0 l v i
 
-by_break : (b : Bool) → (b && false) ≡ false
-by_break true = refl
-by_break false = refl
-
 -- Nothing pauses before `?`, but behind what is closed.
 no_pause : (c : Code) (e : ℕ) (v : List PlacedToken) → Loose e → kind_of v ≡ question_mark_kind → pauses c e (record { last = 0; places = three v }) ≡ false
 no_pause c e [] o k = absurd (true≢false (sym (ap (λ (n : ℕ). eqb n question_mark_kind) k)))
@@ -247,13 +245,13 @@ no_pause c e (p ∷ v) o k = by_class o
     by_kind e h = subst (λ (n : ℕ). pauses c e (record { last = 0; places = record p { spot = record p.spot { token = record p.spot.token { kind = n } } } ∷ two v }) ≡ false) (sym k) h
 
     open_ : (e : ℕ) → nat_le closed_end e ≡ false → pauses c e (record { last = 0; places = asked ∷ two v }) ≡ false
-    open_ zero i = ap (λ (z : Bool). p.spot.line_break && not z) (asks_on ((kind_of (two v) == dot_kind) && true)) ∙ by_break p.spot.line_break
-    open_ (suc zero) i = ap (λ (z : Bool). p.spot.line_break && not z) (asks_on ((kind_of (two v) == dot_kind) && false)) ∙ by_break p.spot.line_break
+    open_ zero i = ap (λ (z : Bool). p.spot.line_break && not z) (asks_on ((kind_of (two v) == dot_kind) && true)) ∙ and_false p.spot.line_break
+    open_ (suc zero) i = ap (λ (z : Bool). p.spot.line_break && not z) (asks_on ((kind_of (two v) == dot_kind) && false)) ∙ and_false p.spot.line_break
     open_ (suc (suc n)) i = absurd (true≢false (sym (le-leb 2 (suc (suc n)) (omega arith)) ∙ i))
 
     by_class : Loose e → pauses c e (record { last = 0; places = p ∷ two v }) ≡ false
     by_class (inl i) = by_kind e (open_ e i)
-    by_class (inr i) = ap (λ (n : ℕ). pauses c n (record { last = 0; places = p ∷ two v })) i ∙ by_kind let_end (ap (λ (z : Bool). p.spot.line_break && not z) (asks_on ((kind_of (two v) == dot_kind) && true)) ∙ by_break p.spot.line_break)
+    by_class (inr i) = ap (λ (n : ℕ). pauses c n (record { last = 0; places = p ∷ two v })) i ∙ by_kind let_end (ap (λ (z : Bool). p.spot.line_break && not z) (asks_on ((kind_of (two v) == dot_kind) && true)) ∙ and_false p.spot.line_break)
 
 -- Nothing pauses before a word on its line.
 no_word : (c : Code) (e : ℕ) (v : List PlacedToken) → break_of v ≡ false → is_word (kind_of v) ≡ true → pauses c e (record { last = 0; places = three v }) ≡ true → ⊥
@@ -311,7 +309,7 @@ paired modular = record {
   goes = λ c e j l s a h k. goes_told c e j l s.places h k;
   param = λ c j p l v s a e k h o. param_told c j l (others s.places) h (o (named_first p v s.places a e k));
   pause = λ c e l s a h. pause_told c e l s.places h;
-  stops = λ c e l s a h p. (λ o k. absurd (true≢false (sym p ∙ no_pause c e s.places o k)), λ b k. absurd (no_word c e s.places b (and_left _ _ k) p));
+  stops = λ c e l s a h p. (λ o k. absurd (true≢false (sym p ∙ no_pause c e s.places o k)), λ b k. absurd (no_word c e s.places b (and_first _ _ k) p));
 }
 
 -- ---- lists
@@ -346,10 +344,6 @@ of_closed t r qs e = (next_agrees r qs e, (λ o. absurd (true≢false o), λ o. 
 
 of_calm : (t : Tree) (r : State Input) (qs : List PlacedToken) → InsteadOfAny t r.source.places qs → Agree 0 qs r.source × Good glimpse ahead 0 r qs
 of_calm t r qs e = (next_agrees r qs e.next, (λ o. e.question, λ o. e.word))
-
-edge_open : (a b : Bool) → nat_le closed_end (edge_by a b) ≡ false → a ≡ false
-edge_open true b e = absurd (true≢false e)
-edge_open false b e = refl
 
 edge_waits : (a b : Bool) → nat_le postfix_end (edge_by a b) ≡ false → (a ≡ false) × (b ≡ true)
 edge_waits true b e = absurd (true≢false e)

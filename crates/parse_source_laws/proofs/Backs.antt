@@ -1,5 +1,6 @@
 -- From a list that a source hands out behind a reading back to one that it hands out before.
 use Rattle.std.proofs.Common.{◌≡◌, ◌⊎◌, ◌<◌, ◌≤◌, ◌+◌, ℕ, zero, suc, Bool, true, false, not, ◌&&◌, ◌||◌, cond, if◌then◌else◌, eqb, nat_le, nat_lt, List, [], ◌∷◌, ◌++◌, length, append_assoc, Result, Ok, Err, inl, inr, refl, sym, ap, ap₂, ◌∙◌, subst, true≢false, arith, eqb-true, lt-ltb}
+use Rattle.base_proofs.proofs.Bools.{and_first}
 use Rattle.base_token.specs.declared.context.Context.{Context}
 use Rattle.base_token.specs.Kinds.{error_kind, semicolon_kind}
 use Rattle.tree_spec.specs.Tree.{Tree}
@@ -411,10 +412,6 @@ module _ {S : Type 0} {m : Stream S} {Live : Pairing m} {modular : Bool} (w : Pa
   unfolding eat
   back_eat {s = s} j e d l g f n = back_taken _ (λ r. Unexpected (bound lm r)) (at m j s) (λ r. at lm j r) (λ qs h. at_hand j e s l qs h) (λ i. here_at j e d s l i) g f n
 
-  plain_left : (a b : Bool) → (a && b) ≡ true → a ≡ true
-  plain_left true b e = refl
-  plain_left false b e = absurd (true≢false (sym e))
-
   word_test : (j : ℕ) (x : Context) → Plain j → (s : State S) → Live.live s.source → (qs : List PlacedToken) → Live.hands 0 qs s.source → (at lm j (list_at m Live s qs) && not (barred x (input lm (list_at m Live s qs)))) ≡ (at m j s && not (barred x (input m s)))
   word_test j x e s l qs h = agrees (λ z. at lm j (on [] 0 z) && not (barred x (input lm (on [] 0 z)))) (
     λ p q l v. ap (λ b. b && not (barred x (input lm (on [] 0 (regexp p ∷ l))))) e.0 ∙ sym (ap (λ b. b && not (barred x (input lm (on [] 0 (slash true p q ∷ v))))) e.1),
@@ -426,7 +423,7 @@ module _ {S : Type 0} {m : Stream S} {Live : Pairing m} {modular : Bool} (w : Pa
       → ((i : Here m Live s) → Backed m Live E b closed_end (past m s) (g (past m s)) (λ q. f (was m Live (token i) q) q)) → Backed m Live E true e s (eat_word m c j s >>= g) (λ r. eat_word lm c j r >>= f r)
   unfolding eat_word
   back_word {s = s} c j e d l g f n = back_taken _ (λ r. Unexpected (bound lm r)) (at m j s && not (barred c.context (input m s))) (λ r. at lm j r && not (barred c.context (input lm r))) (λ qs h. word_test j c.context e s l qs h)
-      (λ i. here_at j e d s l (plain_left (at m j s) (not (barred c.context (input m s))) i)) g f n
+      (λ i. here_at j e d s l (and_first (at m j s) (not (barred c.context (input m s))) i)) g f n
 
   -- a word that is any
   pub back_own : {A : Type 0} {E : A → ℕ} {e : ℕ} {b : Bool} {s : State S} (c : Code) (j : Here m Live s) (g : State S → Result (A × State S) Fault) (f : State Input → State Input → Result (A × State Input) Fault)

@@ -1,5 +1,6 @@
 -- A source and a list that it hands out, side by side: what is read of the list is read of the source.
 use Rattle.std.proofs.Common.{◌≡◌, ◌⊎◌, ◌<◌, ◌≤◌, ◌+◌, ℕ, zero, suc, Bool, true, false, not, ◌&&◌, ◌||◌, cond, eqb, nat_le, nat_lt, List, [], ◌∷◌, length, Option, Result, Ok, Err, inl, inr, refl, sym, ap, ap₂, ◌∙◌, subst, true≢false, arith, eqb-true, ltb-true, lt-ltb}
+use Rattle.base_proofs.proofs.Bools.{and_first}
 use Rattle.base_token.specs.declared.context.Context.{Context}
 use Rattle.base_token.specs.declared.place.Span.{Span}
 use Rattle.base_token.specs.Kinds.{end_kind, regex_kind, div_kind, div_assign_kind, semicolon_kind}
@@ -107,14 +108,6 @@ look3 B a b c d f g i (p ∷ l) v (inr h) = reread (λ p q. B (p ∷ l) ≡ B (q
 -- a kind that is no slash and no regular expression, and not the end
 abbrev pub Plain : ℕ → Type 0
 Plain k = (eqb regex_kind k ≡ false) × (eqb div_assign_kind k ≡ false) × (eqb div_kind k ≡ false) × (eqb end_kind k ≡ false)
-
-pub and_left : (a b : Bool) → (a && b) ≡ true → a ≡ true
-and_left true b e = refl
-and_left false b e = absurd (true≢false (sym e))
-
-pub and_right : (a b : Bool) → (a && b) ≡ true → b ≡ true
-and_right true b e = e
-and_right false b e = absurd (true≢false (sym e))
 
 -- ---- what the step of a loop hands to the next turn
 
@@ -370,7 +363,7 @@ module _ {S : Type 0} {m : Stream S} {Live : S → Type 0} {modular : Bool} (w :
       → (Joined m Live k s r → Told m Live k (f (past lm r)) (g (past m s))) → Told m Live k (eat_word lm c j r >>= f) (eat_word m c j s >>= g)
   unfolding eat_word
   told_word k c j e s r h f g n = taken _ _ k (at lm j r && not (barred c.context (input lm r))) (at m j s && not (barred c.context (input m s))) (word_test j c.context e k s r h) (past m s) (past lm r) f g
-      (λ i. n (joined_at j e k s r h (and_left (at lm j r) (not (barred c.context (input lm r))) i)))
+      (λ i. n (joined_at j e k s r h (and_first (at lm j r) (not (barred c.context (input lm r))) i)))
 
   -- a word that is any
   own_test : (x : Context) (k : Ceiling) (s : State S) (r : State Input) → Joined m Live k s r → (at lm (kind (input lm r)) r && not (barred x (input lm r))) ≡ (at m (kind (input m s)) s && not (barred x (input m s)))
@@ -394,7 +387,7 @@ module _ {S : Type 0} {m : Stream S} {Live : S → Type 0} {modular : Bool} (w :
   joined_word k s r h y = joined_by is_word refl refl k s r h y
 
   pub joined_name : (c : Code) (k : Ceiling) (s : State S) (r : State Input) → Beside m Live k s r → is_name lm c r ≡ true → Joined m Live k s r
-  joined_name c k s r h y = joined_word k s r h (and_left (is_word (kind (input lm r))) _ y)
+  joined_name c k s r h y = joined_word k s r h (and_first (is_word (kind (input lm r))) _ y)
 
   pub told_name : {A : Type 0} (k : Ceiling) (c : Code) (s : State S) (r : State Input) → Beside m Live k s r → (f : List ℕ × State Input → Result (A × State Input) Fault) (g : List ℕ × State S → Result (A × State S) Fault)
       → ((n : List ℕ) → Joined m Live k s r → Told m Live k (f (n, past lm r)) (g (n, past m s))) → Told m Live k (name lm c r >>= f) (name m c s >>= g)

@@ -1,5 +1,6 @@
 -- Expressions (ECMA-262, clause 13): what their rules read of a source is read of a list that it hands out.
 use Rattle.std.proofs.Common.{◌≡◌, ◌⊎◌, ℕ, Bool, true, false, not, ◌&&◌, ◌||◌, ◌==◌, cond, eqb, nat_le, nat_lt, if◌then◌else◌, List, [], ◌∷◌, ◌++◌, Option, Some, None, Result, Ok, Err, codes, bytes_eq, inl, inr, refl, sym, ap, ap₂, ◌∙◌, subst, true≢false, arith, eqb-true}
+use Rattle.base_proofs.proofs.Bools.{and_second, and_first}
 use Rattle.base_token.specs.declared.place.Span.{Span}
 use Rattle.base_token.specs.Kinds.{regex_kind, div_kind, div_assign_kind, arrow_kind, hash_kind, dot_kind, dot_dot_dot_kind, left_paren_kind, right_paren_kind, left_bracket_kind, right_bracket_kind, left_brace_kind, right_brace_kind, comma_kind, back_quote_kind, template_kind, colon_kind, dollar_brace_kind, question_mark_kind, mul_kind, assign_kind, null_kind, true_kind, false_kind, await_kind, function_kind, class_kind, new_kind, this_kind, super_kind, import_kind, yield_kind, in_kind, plus_plus_kind, minus_minus_kind, async_kind, meta_kind, target_kind, get_kind, set_kind}
 use Rattle.base_token.specs.Tokens.{Content, Quoted, Pattern, Numeral, BigNumeral}
@@ -13,7 +14,7 @@ use Rattle.grammar_spec.specs.Reader.Cover.{last_rests, to_target}
 use Rattle.grammar_spec.specs.Tokens.Input.{no_name}
 use Rattle.base_token.specs.Kinds.{error_kind}
 use Rattle.parse_source_laws.specs.Sources.{is_slash}
-use Rattle.parse_source_laws.proofs.Beside.{lm, on, Plain, and_left, and_right, same_rest, same_pattern, same_quasi}
+use Rattle.parse_source_laws.proofs.Beside.{lm, on, Plain, same_rest, same_pattern, same_quasi}
 use Rattle.parse_source_laws.specs.Ahead.{ends_async, last_async}
 use Rattle.parse_source_laws.proofs.Pairs.{edge_by, edge, Keeps, is_param, Pairing, Paired}
 use Rattle.grammar_spec.specs.Tokens.Shape.{is_block}
@@ -66,7 +67,7 @@ module _ {S : Type 0} {m : Stream S} {Live : Pairing m} {modular : Bool} (w : Pa
 
   pub element_step_backed : (s : State S) (c : Code) (ce : c.context.module_ ≡ modular) (holes : Bool) (close : ℕ) (shut : Plain close) (shutf : eqb error_kind close ≡ false) (xs : Elements) (sl' : Live.live s.source) → Backed m Live closed true closed_end s (element_step m im c holes close xs s) (λ r'. element_step lm il c holes close xs r')
   unfolding element_step
-  element_step_backed s c ce holes close shut shutf xs sl' = back_at w {s = s} close shut shutf sl' _ _ _ _ (λ j1. back_past w {s = s} j1 _ (λ r' q'. Ok (finished xs, q')) (back_ok {s = (past m s)} _ _ (live_past w j1) (λ qs' h'. refl) ((λ i'. absurd (true≢false i')), (λ i'. absurd (true≢false i'))))) (back_if w {s = s} (λ z'. holes && at lm comma_kind (on [] 0 z')) ((λ p' q' l' v'. refl), (λ p' q' l' v'. refl), (λ p' l' v'. refl)) sl' _ _ _ _ (λ y2. back_past w {s = s} (here_at w comma_kind (refl, refl, refl, refl) refl s sl' (and_right holes (at m comma_kind s) y2)) _ (λ r' q'. Ok (go_on (record { items = xs.items ++ hole ∷ []; comma = false }), q')) (back_ok {s = (past m s)} _ _ (live_past w (here_at w comma_kind (refl, refl, refl, refl) refl s sl' (and_right holes (at m comma_kind s) y2))) (λ qs' h'. refl) ((λ i'. absurd (true≢false i')), (λ i'. absurd (true≢false i'))))) (back_then _ _ _ _ (element_by_backed s c ce sl') (λ e3a e3s e3u. after_element_backed e3s close shut shutf (xs.items ++ e3a ∷ []) e3u.live)))
+  element_step_backed s c ce holes close shut shutf xs sl' = back_at w {s = s} close shut shutf sl' _ _ _ _ (λ j1. back_past w {s = s} j1 _ (λ r' q'. Ok (finished xs, q')) (back_ok {s = (past m s)} _ _ (live_past w j1) (λ qs' h'. refl) ((λ i'. absurd (true≢false i')), (λ i'. absurd (true≢false i'))))) (back_if w {s = s} (λ z'. holes && at lm comma_kind (on [] 0 z')) ((λ p' q' l' v'. refl), (λ p' q' l' v'. refl), (λ p' l' v'. refl)) sl' _ _ _ _ (λ y2. back_past w {s = s} (here_at w comma_kind (refl, refl, refl, refl) refl s sl' (and_second holes (at m comma_kind s) y2)) _ (λ r' q'. Ok (go_on (record { items = xs.items ++ hole ∷ []; comma = false }), q')) (back_ok {s = (past m s)} _ _ (live_past w (here_at w comma_kind (refl, refl, refl, refl) refl s sl' (and_second holes (at m comma_kind s) y2))) (λ qs' h'. refl) ((λ i'. absurd (true≢false i')), (λ i'. absurd (true≢false i'))))) (back_then _ _ _ _ (element_by_backed s c ce sl') (λ e3a e3s e3u. after_element_backed e3s close shut shutf (xs.items ++ e3a ∷ []) e3u.live)))
 
   pub elements_by_backed : (s : State S) (c : Code) (ce : c.context.module_ ≡ modular) (holes : Bool) (close : ℕ) (shut : Plain close) (shutf : eqb error_kind close ≡ false) (sl' : Live.live s.source) → Backed m Live closed true closed_end s (elements_by m im c holes close s) (λ r'. elements_by lm il c holes close r')
   unfolding elements_by
@@ -94,7 +95,7 @@ module _ {S : Type 0} {m : Stream S} {Live : Pairing m} {modular : Bool} (w : Pa
 
   pub parameter_step_backed : (s : State S) (c : Code) (ce : c.context.module_ ≡ modular) (ps : List Tree) (sl' : Live.live s.source) → Backed m Live closed true closed_end s (parameter_step m im c ps s) (λ r'. parameter_step lm il c ps r')
   unfolding parameter_step
-  parameter_step_backed s c ce ps sl' = back_at w {s = s} right_paren_kind (refl, refl, refl, refl) refl sl' _ _ _ _ (λ j1. back_past w {s = s} j1 _ (λ r' q'. Ok (finished ps, q')) (back_ok {s = (past m s)} _ _ (live_past w j1) (λ qs' h'. refl) ((λ i'. absurd (true≢false i')), (λ i'. absurd (true≢false i'))))) (back_then _ _ _ _ (parameter_by_backed s c ce sl') (λ p2a p2s p2u. back_test (at m comma_kind p2s && not (is_rest_param m im p2a)) (λ r'. at lm comma_kind r' && not (is_rest_param lm il p2a)) _ _ _ _ (λ qs' h'. ap (λ (z' : Bool). z' && not ((is_rest_param lm il p2a))) (at_was w comma_kind (refl, refl, refl, refl) (stay {s = p2s} p2u.live) qs' h') ∙ (ap (λ (z' : Bool). (at m comma_kind p2s) && not (z')) (same_rest m im il p2a))) (λ y4. back_past w {s = p2s} (here_at w comma_kind (refl, refl, refl, refl) refl p2s p2u.live (and_left _ _ y4)) _ (λ r' q'. Ok (go_on (ps ++ p2a ∷ []), q')) (back_ok {s = (past m p2s)} _ _ (live_past w (here_at w comma_kind (refl, refl, refl, refl) refl p2s p2u.live (and_left _ _ y4))) (λ qs' h'. refl) ((λ i'. absurd (true≢false i')), (λ i'. absurd (true≢false i'))))) (λ _. back_eat w {s = p2s} right_paren_kind (refl, refl, refl, refl) refl p2u.live _ _ (λ j5. back_ok {s = (past m p2s)} _ _ (live_past w j5) (λ qs' h'. refl) ((λ i'. absurd (true≢false i')), (λ i'. absurd (true≢false i')))))))
+  parameter_step_backed s c ce ps sl' = back_at w {s = s} right_paren_kind (refl, refl, refl, refl) refl sl' _ _ _ _ (λ j1. back_past w {s = s} j1 _ (λ r' q'. Ok (finished ps, q')) (back_ok {s = (past m s)} _ _ (live_past w j1) (λ qs' h'. refl) ((λ i'. absurd (true≢false i')), (λ i'. absurd (true≢false i'))))) (back_then _ _ _ _ (parameter_by_backed s c ce sl') (λ p2a p2s p2u. back_test (at m comma_kind p2s && not (is_rest_param m im p2a)) (λ r'. at lm comma_kind r' && not (is_rest_param lm il p2a)) _ _ _ _ (λ qs' h'. ap (λ (z' : Bool). z' && not ((is_rest_param lm il p2a))) (at_was w comma_kind (refl, refl, refl, refl) (stay {s = p2s} p2u.live) qs' h') ∙ (ap (λ (z' : Bool). (at m comma_kind p2s) && not (z')) (same_rest m im il p2a))) (λ y4. back_past w {s = p2s} (here_at w comma_kind (refl, refl, refl, refl) refl p2s p2u.live (and_first _ _ y4)) _ (λ r' q'. Ok (go_on (ps ++ p2a ∷ []), q')) (back_ok {s = (past m p2s)} _ _ (live_past w (here_at w comma_kind (refl, refl, refl, refl) refl p2s p2u.live (and_first _ _ y4))) (λ qs' h'. refl) ((λ i'. absurd (true≢false i')), (λ i'. absurd (true≢false i'))))) (λ _. back_eat w {s = p2s} right_paren_kind (refl, refl, refl, refl) refl p2u.live _ _ (λ j5. back_ok {s = (past m p2s)} _ _ (live_past w j5) (λ qs' h'. refl) ((λ i'. absurd (true≢false i')), (λ i'. absurd (true≢false i')))))))
 
   pub parameters_by_backed : {e' : ℕ} (s : State S) (c : Code) (ce : c.context.module_ ≡ modular) (sl' : Live.live s.source) → Backed m Live closed true e' s (parameters_by m im c s) (λ r'. parameters_by lm il c r')
   unfolding parameters_by
@@ -271,7 +272,7 @@ module _ {S : Type 0} {m : Stream S} {Live : Pairing m} {modular : Bool} (w : Pa
   heads_same l xs s a qs h = ap₂ (λ (a b : Bool). a && b) (agrees w (λ z'. arrows_at lm il l (on [] 0 z')) ((λ p' q' l' v'. refl), (λ p' q' l' v'. refl), (λ p' l' v'. refl)) s a qs h) (ap (λ (z : Result (List Tree) Fault). is_read z) (params_same s.commas xs))
 
   pub heads_here : (l : ℕ) (xs : Elements) (s : State S) → Live.live s.source → heads_params m im l xs s ≡ true → Here m Live s
-  heads_here l xs s a y = here_by w (λ z'. arrows_at lm il l (on [] 0 z')) (refl, λ p v. refl) s a (and_left (arrows_at m im l s) (is_read (params_of m im s.commas xs)) y)
+  heads_here l xs s a y = here_by w (λ z'. arrows_at lm il l (on [] 0 z')) (refl, λ p v. refl) s a (and_first (arrows_at m im l s) (is_read (params_of m im s.commas xs)) y)
 
   parens_backed : (s : State S) (start : State S) (startu : Path m Live start s) (open_ : State S) (open_u : Path m Live open_ s) (n : ℕ) (t : Option (List Tree)) (l : Live.live s.source)
       → Backed m Live {A = Tree} edge false closed_end s (elim t [ None ↦ unexpected m s | Some [] ↦ unexpected m s | Some (e ∷ es) ↦ Ok (paren_expr (spanned m start s) (joined (e ∷ es) (span (lo (input m open_)) n)), s) ])
@@ -300,7 +301,7 @@ module _ {S : Type 0} {m : Stream S} {Live : Pairing m} {modular : Bool} (w : Pa
 
   pub async_group_backed : {e' : ℕ} (s : State S) (c : Code) (ce : c.context.module_ ≡ modular) (l : ℕ) (start : State S) (startu : Path m Live start s) (startk : Took m Live startu) (j' : Here m Live s) → Backed m Live edge true e' s (async_group m im c l start s) (λ r'. async_group lm il c l (was m Live startu r') r')
   unfolding async_group
-  async_group_backed s c ce l start startu startk j' = back_past w {s = s} j' _ (λ r' q'. (elements_by lm il (with_in c) false right_paren_kind q' >>= λ xs. if heads_params lm il l xs.0 xs.1 && not (brk (input lm r')) then (placed (bound lm xs.1) (params_of lm il xs.1.commas xs.0) >>= λ ps. arrow_by lm il c (was m Live startu r') true ps xs.1) else (Ok (call_expr (spanned lm (was m Live startu r') xs.1) (ident (first lm il (was m Live startu r')) (text (input lm (was m Live startu r')))) (pack xs.0.items), xs.1)))) (back_then _ _ _ _ (elements_by_backed (past m s) (with_in c) ce false right_paren_kind (refl, refl, refl, refl) refl (live_past w j')) (λ xs1a xs1s xs1u. back_test (heads_params m im l xs1a xs1s && not (brk (input m s))) (λ r'. heads_params lm il l xs1a r' && not (brk (input lm (was m Live (join (token w j') xs1u) r')))) _ _ _ _ (λ qs' h'. ap₂ (λ (a' b' : Bool). a' && not b') (heads_same l xs1a xs1s xs1u.live qs' h') (brk_was w (join (token w j') xs1u) qs' h')) (λ y3. back_weak _ (back_pure _ _ _ _ _ _ (λ qs' h'. params_same _ _) (λ ps4. arrow_by_backed xs1s c ce start (join (join startu (token w j')) xs1u) true ps4 (heads_here l xs1a xs1s xs1u.live (and_left _ _ y3))))) (λ _. back_ok {s = xs1s} _ _ xs1u.live (λ qs' h'. ap (λ (z' : ℕ). call_expr ((span z' (m.last xs1s.source))) (ident ((first lm il (was m Live (join (join startu (token w j')) xs1u) (list_at m Live xs1s qs')))) ((text (input lm (was m Live (join (join startu (token w j')) xs1u) (list_at m Live xs1s qs')))))) (pack xs1a.items)) (lo_was w (join (join startu (token w j')) xs1u) qs' h') ∙ (ap (λ (z' : Span). call_expr ((spanned m start xs1s)) (ident (z') ((text (input lm (was m Live (join (join startu (token w j')) xs1u) (list_at m Live xs1s qs')))))) (pack xs1a.items)) (first_was w (join (join startu (token w j')) xs1u) (took_join (join startu (token w j')) xs1u (took_join startu (token w j') startk)) qs' h') ∙ (ap (λ (z' : List ℕ). call_expr ((spanned m start xs1s)) (ident ((first m im start)) (z')) (pack xs1a.items)) (text_was w (join (join startu (token w j')) xs1u) (took_join (join startu (token w j')) xs1u (took_join startu (token w j') startk)) qs' h')))) ((λ i'. absurd (true≢false i')), (λ i'. absurd (true≢false i'))))))
+  async_group_backed s c ce l start startu startk j' = back_past w {s = s} j' _ (λ r' q'. (elements_by lm il (with_in c) false right_paren_kind q' >>= λ xs. if heads_params lm il l xs.0 xs.1 && not (brk (input lm r')) then (placed (bound lm xs.1) (params_of lm il xs.1.commas xs.0) >>= λ ps. arrow_by lm il c (was m Live startu r') true ps xs.1) else (Ok (call_expr (spanned lm (was m Live startu r') xs.1) (ident (first lm il (was m Live startu r')) (text (input lm (was m Live startu r')))) (pack xs.0.items), xs.1)))) (back_then _ _ _ _ (elements_by_backed (past m s) (with_in c) ce false right_paren_kind (refl, refl, refl, refl) refl (live_past w j')) (λ xs1a xs1s xs1u. back_test (heads_params m im l xs1a xs1s && not (brk (input m s))) (λ r'. heads_params lm il l xs1a r' && not (brk (input lm (was m Live (join (token w j') xs1u) r')))) _ _ _ _ (λ qs' h'. ap₂ (λ (a' b' : Bool). a' && not b') (heads_same l xs1a xs1s xs1u.live qs' h') (brk_was w (join (token w j') xs1u) qs' h')) (λ y3. back_weak _ (back_pure _ _ _ _ _ _ (λ qs' h'. params_same _ _) (λ ps4. arrow_by_backed xs1s c ce start (join (join startu (token w j')) xs1u) true ps4 (heads_here l xs1a xs1s xs1u.live (and_first _ _ y3))))) (λ _. back_ok {s = xs1s} _ _ xs1u.live (λ qs' h'. ap (λ (z' : ℕ). call_expr ((span z' (m.last xs1s.source))) (ident ((first lm il (was m Live (join (join startu (token w j')) xs1u) (list_at m Live xs1s qs')))) ((text (input lm (was m Live (join (join startu (token w j')) xs1u) (list_at m Live xs1s qs')))))) (pack xs1a.items)) (lo_was w (join (join startu (token w j')) xs1u) qs' h') ∙ (ap (λ (z' : Span). call_expr ((spanned m start xs1s)) (ident (z') ((text (input lm (was m Live (join (join startu (token w j')) xs1u) (list_at m Live xs1s qs')))))) (pack xs1a.items)) (first_was w (join (join startu (token w j')) xs1u) (took_join (join startu (token w j')) xs1u (took_join startu (token w j') startk)) qs' h') ∙ (ap (λ (z' : List ℕ). call_expr ((spanned m start xs1s)) (ident ((first m im start)) (z')) (pack xs1a.items)) (text_was w (join (join startu (token w j')) xs1u) (took_join (join startu (token w j')) xs1u (took_join startu (token w j') startk)) qs' h')))) ((λ i'. absurd (true≢false i')), (λ i'. absurd (true≢false i'))))))
 
   pub function_expr_name_backed : {e' : ℕ} (s : State S) (c : Code) (ce : c.context.module_ ≡ modular) (start : State S) (startu : Path m Live start s) (generator : Bool) (async : Bool) (sl' : Live.live s.source) → Backed m Live closed true e' s (function_expr_name m im c start generator async s) (λ r'. function_expr_name lm il c (was m Live startu r') generator async r')
   unfolding function_expr_name
@@ -339,7 +340,7 @@ module _ {S : Type 0} {m : Stream S} {Live : Pairing m} {modular : Bool} (w : Pa
   async_by_backed s c ce l j' ak = back_past w {s = s} j' _ (λ r' q'. if (at lm function_kind q' && not (brk (input lm q'))) && not (barred c.context (input lm q')) then function_expr_by lm il c r' true q' else (if is_async_param lm il c l q' then (name lm c q' >>= λ n. arrow_by lm il c r' true (binding_ident (first lm il q') (ident (first lm il q') n.0) ∷ []) n.1) else (if at lm left_paren_kind q' && not (brk (input lm q')) then async_group lm il c l r' q' else (ident_end lm il c l r' (text (input lm r')) q')))) (back_if w {s = (past m s)} (λ z'. (at lm function_kind (on [] 0 z') && not (brk (input lm (on [] 0 z')))) && not (barred c.context (input lm (on [] 0 z')))) ((λ p' q' l' v'. refl), (λ p' q' l' v'. refl), (λ p' l' v'. refl)) (live_past w j') _ _ _ _ (λ y1. back_weak _ (back_closed _ (function_expr_by_backed (past m s) c ce s (token w j') true (live_past w j')))) (bides_back w _ _ (bides_test w (is_async_param m im c l (past m s)) (λ r'. is_async_param lm il c l r') _ _ _ _ (λ qs' h' o'. param_told s l c (live_past w j') qs' o')
       (λ y2. bides_weak w _ _ (bides_one w _ _ (back_name w {s = (past m s)} c (live_past w j') _ _ (λ n4 j3. back_same _ (λ r'. arrow_by lm il c (was m Live (join (token w j') (token w j3)) r') true (binding_ident ((first m im (past m s))) (ident ((first m im (past m s))) n4) ∷ []) r') (λ r'. arrow_by lm il c (was m Live (join (token w j') (token w j3)) r') true (binding_ident (first lm il (was m Live (token w j3) r')) (ident (first lm il (was m Live (token w j3) r')) n4) ∷ []) r') (λ qs' h'. ap (λ (z' : Span). arrow_by lm il c (was m Live (join (token w j') (token w j3)) (list_at m Live (past m (past m s)) qs')) true (binding_ident (z') (ident (z') n4) ∷ []) (list_at m Live (past m (past m s)) qs')) (first_was w (token w j3) (took_token w j3) qs' h')) (arrow_by_backed (past m (past m s)) c ce s (join (token w j') (token w j3)) true (binding_ident (first m im (past m s)) (ident (first m im (past m s)) n4) ∷ []) (here_second w (λ z'. kind2 (input lm (on [] 0 z')) == arrow_kind) (past m s) j3 (λ p'. refl) (λ p' q' l'. refl) (async_arrow _ _ _ _ _ y2)))))))
       (λ n2. bides_test w (at m left_paren_kind (past m s) && not (brk (input m (past m s)))) (λ r'. at lm left_paren_kind r' && not (brk (input lm r'))) _ _ _ _ (λ qs' h' o'. agrees w (λ z'. at lm left_paren_kind (on [] 0 z') && not (brk (input lm (on [] 0 z')))) ((λ p' q' l' v'. refl), (λ p' q' l' v'. refl), (λ p' l' v'. refl)) (past m s) (live_past w j') qs' h')
-      (λ y5. bides_weak w _ _ (bides_one w _ _ (async_group_backed (past m s) c ce l s (token w j') (took_token w j') (here_at w left_paren_kind (refl, refl, refl, refl) refl (past m s) (live_past w j') (and_left _ _ y5)))))
+      (λ y5. bides_weak w _ _ (bides_one w _ _ (async_group_backed (past m s) c ce l s (token w j') (took_token w j') (here_at w left_paren_kind (refl, refl, refl, refl) refl (past m s) (live_past w j') (and_first _ _ y5)))))
       (λ n5. ident_bides s c ce l j' ak)))))
 
   pub class_expr_by_backed : {e' : ℕ} (s : State S) (c : Code) (ce : c.context.module_ ≡ modular) (sl' : Live.live s.source) → Backed m Live closed true e' s (class_expr_by m im c s) (λ r'. class_expr_by lm il c r')
@@ -348,7 +349,7 @@ module _ {S : Type 0} {m : Stream S} {Live : Pairing m} {modular : Bool} (w : Pa
 
   pub new_end_backed : (s : State S) (c : Code) (ce : c.context.module_ ≡ modular) (start : State S) (startu : Path m Live start s) (f : Tree) (sl' : Live.live s.source) → Backed m Live edge false (edge f) s (new_end m im c start f s) (λ r'. new_end lm il c (was m Live startu r') f r')
   unfolding new_end
-  new_end_backed s c ce start startu f sl' = back_if w {s = s} (λ z'. at lm left_paren_kind (on [] 0 z') && nat_le member_level (level f)) ((λ p' q' l' v'. refl), (λ p' q' l' v'. refl), (λ p' l' v'. refl)) sl' _ _ _ _ (λ y1. back_weak _ (back_past w {s = s} (here_at w left_paren_kind (refl, refl, refl, refl) refl s sl' (and_left _ _ y1)) _ (λ r' q'. (arguments_by lm il c q' >>= λ xs. Ok (new_expr (spanned lm (was m Live startu r') xs.1) f (list (pack xs.0)), xs.1))) (back_then _ _ _ _ (arguments_by_backed (past m s) c ce (live_past w (here_at w left_paren_kind (refl, refl, refl, refl) refl s sl' (and_left _ _ y1)))) (λ xs2a xs2s xs2u. back_ok {s = xs2s} _ _ xs2u.live (λ qs' h'. ap (λ (z' : ℕ). new_expr ((span z' (m.last xs2s.source))) f (list (pack xs2a))) (lo_was w (join (join startu (token w (here_at w left_paren_kind (refl, refl, refl, refl) refl s sl' (and_left _ _ y1)))) xs2u) qs' h')) ((λ i'. absurd (true≢false i')), (λ i'. absurd (true≢false i'))))))) (back_only w _ (λ r. Unexpected (bound lm r)) ((nat_le member_level (level f) || (level f == new_level)) && nat_lt (goes_expr c other_end (input m s)) call_level) (λ r'. (nat_le member_level (level f) || (level f == new_level)) && nat_lt (goes_expr c other_end (input lm r')) call_level) (new_expr (spanned m start s) f absent) _ sl'
+  new_end_backed s c ce start startu f sl' = back_if w {s = s} (λ z'. at lm left_paren_kind (on [] 0 z') && nat_le member_level (level f)) ((λ p' q' l' v'. refl), (λ p' q' l' v'. refl), (λ p' l' v'. refl)) sl' _ _ _ _ (λ y1. back_weak _ (back_past w {s = s} (here_at w left_paren_kind (refl, refl, refl, refl) refl s sl' (and_first _ _ y1)) _ (λ r' q'. (arguments_by lm il c q' >>= λ xs. Ok (new_expr (spanned lm (was m Live startu r') xs.1) f (list (pack xs.0)), xs.1))) (back_then _ _ _ _ (arguments_by_backed (past m s) c ce (live_past w (here_at w left_paren_kind (refl, refl, refl, refl) refl s sl' (and_first _ _ y1)))) (λ xs2a xs2s xs2u. back_ok {s = xs2s} _ _ xs2u.live (λ qs' h'. ap (λ (z' : ℕ). new_expr ((span z' (m.last xs2s.source))) f (list (pack xs2a))) (lo_was w (join (join startu (token w (here_at w left_paren_kind (refl, refl, refl, refl) refl s sl' (and_first _ _ y1)))) xs2u) qs' h')) ((λ i'. absurd (true≢false i')), (λ i'. absurd (true≢false i'))))))) (back_only w _ (λ r. Unexpected (bound lm r)) ((nat_le member_level (level f) || (level f == new_level)) && nat_lt (goes_expr c other_end (input m s)) call_level) (λ r'. (nat_le member_level (level f) || (level f == new_level)) && nat_lt (goes_expr c other_end (input lm r')) call_level) (new_expr (spanned m start s) f absent) _ sl'
       (λ qs' h' g'. ap (λ (b' : Bool). (nat_le member_level (level f) || (level f == new_level)) && b') (w.goes c other_end call_level qs' s.source sl' h' (λ o'. g'.0 (edge_open (new_expr (spanned m start s) f absent) refl)))) (λ qs' h'. ap (λ (z' : ℕ). new_expr ((span z' (m.last s.source))) f absent) (lo_was w startu qs' h')) (new_open (spanned m start s) f))
 
   pub callee_by_backed : (s : State S) (c : Code) (ce : c.context.module_ ≡ modular) (sl' : Live.live s.source) → Backed m Live edge true closed_end s (callee_by m im c s) (λ r'. callee_by lm il c r')
@@ -452,12 +453,12 @@ module _ {S : Type 0} {m : Stream S} {Live : Pairing m} {modular : Bool} (w : Pa
   -- one operator where a slash comes
   step_slash : (s : State S) (c : Code) (ce : c.context.module_ ≡ modular) (start : State S) (startp : Path m Live start (past m s)) (t : Tree) (j' : Here m Live s) (sk : is_slash (kind (input m s)) ≡ true) → Backed m Live edge false closed_end (past m s) (step_by m im c start t s) (λ q'. step_by lm il c (was m Live startp q') t (was m Live (token w j') q'))
   unfolding step_by
-  step_slash s c ce start startp t j' sk = back_test (at m comma_kind s) (λ r'. at lm comma_kind (was m Live (token w j') r')) _ _ _ _ (λ qs' h'. has_was w (λ z'. at lm comma_kind (on [] 0 z')) (λ p' l' v'. refl) (token w j') (took_token w j') qs' h') (λ y1. absurd (no_slash (λ z'. eqb z' comma_kind) refl refl s sk y1)) (λ _. back_test (is_assign_op (kind (input m s))) (λ r'. is_assign_op (kind (input lm (was m Live (token w j') r')))) _ _ _ _ (λ qs' h'. has_was w (λ z'. is_assign_op (kind (input lm (on [] 0 z')))) (λ p' l' v'. refl) (token w j') (took_token w j') qs' h') (λ y2. assign_slash s c ce start startp t j') (λ _. back_test (at m question_mark_kind s && (kind2 (input m s) == dot_kind)) (λ r'. at lm question_mark_kind (was m Live (token w j') r') && (kind2 (input lm (was m Live (token w j') r')) == dot_kind)) _ _ _ _ (λ qs' h'. agrees_was_two w (λ z'. at lm question_mark_kind (on [] 0 z') && (kind2 (input lm (on [] 0 z')) == dot_kind)) ((λ p' q' l' v'. refl), (λ p' q' l' v'. refl), (λ n' p' q' l' v'. refl), (λ n' p' q' l' v'. refl), (λ n' p' l' v'. refl)) (token w j') (omega arith) qs' h') (λ y3. absurd (no_slash (λ z'. eqb z' question_mark_kind) refl refl s sk (and_left _ _ y3))) (λ _. back_test (at m question_mark_kind s) (λ r'. at lm question_mark_kind (was m Live (token w j') r')) _ _ _ _ (λ qs' h'. has_was w (λ z'. at lm question_mark_kind (on [] 0 z')) (λ p' l' v'. refl) (token w j') (took_token w j') qs' h') (λ y4. absurd (no_slash (λ z'. eqb z' question_mark_kind) refl refl s sk y4)) (λ _. back_test (operates c (kind (input m s))) (λ r'. operates c (kind (input lm (was m Live (token w j') r')))) _ _ _ _ (λ qs' h'. has_was w (λ z'. operates c (kind (input lm (on [] 0 z')))) (λ p' l' v'. refl) (token w j') (took_token w j') qs' h') (λ y5. back_test (fits_left (kind (input m s)) t) (λ r'. fits_left (kind (input lm (was m Live (token w j') r'))) t) _ _ _ _ (λ qs' h'. has_was w (λ z'. fits_left (kind (input lm (on [] 0 z'))) t) (λ p' l' v'. refl) (token w j') (took_token w j') qs' h') (λ y6. binary_slash s c ce start startp t j') (λ _. back_never)) (λ _. back_test (between plus_plus_kind minus_minus_kind (kind (input m s))) (λ r'. between plus_plus_kind minus_minus_kind (kind (input lm (was m Live (token w j') r')))) _ _ _ _ (λ qs' h'. has_was w (λ z'. between plus_plus_kind minus_minus_kind (kind (input lm (on [] 0 z')))) (λ p' l' v'. refl) (token w j') (took_token w j') qs' h') (λ y7. absurd (no_slash (λ z'. between plus_plus_kind minus_minus_kind (z')) refl refl s sk y7)) (λ _. back_test (not (nat_le call_level (level t))) (λ r'. not (nat_le call_level (level t))) _ _ _ _ (λ qs' h'. refl) (λ y8. back_never) (λ _. back_test (at m left_paren_kind s) (λ r'. at lm left_paren_kind (was m Live (token w j') r')) _ _ _ _ (λ qs' h'. has_was w (λ z'. at lm left_paren_kind (on [] 0 z')) (λ p' l' v'. refl) (token w j') (took_token w j') qs' h') (λ y9. absurd (no_slash (λ z'. eqb z' left_paren_kind) refl refl s sk y9)) (λ _. back_test (at m left_bracket_kind s) (λ r'. at lm left_bracket_kind (was m Live (token w j') r')) _ _ _ _ (λ qs' h'. has_was w (λ z'. at lm left_bracket_kind (on [] 0 z')) (λ p' l' v'. refl) (token w j') (took_token w j') qs' h') (λ y10. absurd (no_slash (λ z'. eqb z' left_bracket_kind) refl refl s sk y10)) (λ _. back_test (at m dot_kind s) (λ r'. at lm dot_kind (was m Live (token w j') r')) _ _ _ _ (λ qs' h'. has_was w (λ z'. at lm dot_kind (on [] 0 z')) (λ p' l' v'. refl) (token w j') (took_token w j') qs' h') (λ y11. absurd (no_slash (λ z'. eqb z' dot_kind) refl refl s sk y11)) (λ _. back_test (at m back_quote_kind s && not (is_chain t)) (λ r'. at lm back_quote_kind (was m Live (token w j') r') && not (is_chain t)) _ _ _ _ (λ qs' h'. has_was w (λ z'. at lm back_quote_kind (on [] 0 z') && not (is_chain t)) (λ p' l' v'. refl) (token w j') (took_token w j') qs' h') (λ y12. absurd (no_slash (λ z'. eqb z' back_quote_kind) refl refl s sk (and_left _ _ y12))) (λ _. back_never)))))))))))
+  step_slash s c ce start startp t j' sk = back_test (at m comma_kind s) (λ r'. at lm comma_kind (was m Live (token w j') r')) _ _ _ _ (λ qs' h'. has_was w (λ z'. at lm comma_kind (on [] 0 z')) (λ p' l' v'. refl) (token w j') (took_token w j') qs' h') (λ y1. absurd (no_slash (λ z'. eqb z' comma_kind) refl refl s sk y1)) (λ _. back_test (is_assign_op (kind (input m s))) (λ r'. is_assign_op (kind (input lm (was m Live (token w j') r')))) _ _ _ _ (λ qs' h'. has_was w (λ z'. is_assign_op (kind (input lm (on [] 0 z')))) (λ p' l' v'. refl) (token w j') (took_token w j') qs' h') (λ y2. assign_slash s c ce start startp t j') (λ _. back_test (at m question_mark_kind s && (kind2 (input m s) == dot_kind)) (λ r'. at lm question_mark_kind (was m Live (token w j') r') && (kind2 (input lm (was m Live (token w j') r')) == dot_kind)) _ _ _ _ (λ qs' h'. agrees_was_two w (λ z'. at lm question_mark_kind (on [] 0 z') && (kind2 (input lm (on [] 0 z')) == dot_kind)) ((λ p' q' l' v'. refl), (λ p' q' l' v'. refl), (λ n' p' q' l' v'. refl), (λ n' p' q' l' v'. refl), (λ n' p' l' v'. refl)) (token w j') (omega arith) qs' h') (λ y3. absurd (no_slash (λ z'. eqb z' question_mark_kind) refl refl s sk (and_first _ _ y3))) (λ _. back_test (at m question_mark_kind s) (λ r'. at lm question_mark_kind (was m Live (token w j') r')) _ _ _ _ (λ qs' h'. has_was w (λ z'. at lm question_mark_kind (on [] 0 z')) (λ p' l' v'. refl) (token w j') (took_token w j') qs' h') (λ y4. absurd (no_slash (λ z'. eqb z' question_mark_kind) refl refl s sk y4)) (λ _. back_test (operates c (kind (input m s))) (λ r'. operates c (kind (input lm (was m Live (token w j') r')))) _ _ _ _ (λ qs' h'. has_was w (λ z'. operates c (kind (input lm (on [] 0 z')))) (λ p' l' v'. refl) (token w j') (took_token w j') qs' h') (λ y5. back_test (fits_left (kind (input m s)) t) (λ r'. fits_left (kind (input lm (was m Live (token w j') r'))) t) _ _ _ _ (λ qs' h'. has_was w (λ z'. fits_left (kind (input lm (on [] 0 z'))) t) (λ p' l' v'. refl) (token w j') (took_token w j') qs' h') (λ y6. binary_slash s c ce start startp t j') (λ _. back_never)) (λ _. back_test (between plus_plus_kind minus_minus_kind (kind (input m s))) (λ r'. between plus_plus_kind minus_minus_kind (kind (input lm (was m Live (token w j') r')))) _ _ _ _ (λ qs' h'. has_was w (λ z'. between plus_plus_kind minus_minus_kind (kind (input lm (on [] 0 z')))) (λ p' l' v'. refl) (token w j') (took_token w j') qs' h') (λ y7. absurd (no_slash (λ z'. between plus_plus_kind minus_minus_kind (z')) refl refl s sk y7)) (λ _. back_test (not (nat_le call_level (level t))) (λ r'. not (nat_le call_level (level t))) _ _ _ _ (λ qs' h'. refl) (λ y8. back_never) (λ _. back_test (at m left_paren_kind s) (λ r'. at lm left_paren_kind (was m Live (token w j') r')) _ _ _ _ (λ qs' h'. has_was w (λ z'. at lm left_paren_kind (on [] 0 z')) (λ p' l' v'. refl) (token w j') (took_token w j') qs' h') (λ y9. absurd (no_slash (λ z'. eqb z' left_paren_kind) refl refl s sk y9)) (λ _. back_test (at m left_bracket_kind s) (λ r'. at lm left_bracket_kind (was m Live (token w j') r')) _ _ _ _ (λ qs' h'. has_was w (λ z'. at lm left_bracket_kind (on [] 0 z')) (λ p' l' v'. refl) (token w j') (took_token w j') qs' h') (λ y10. absurd (no_slash (λ z'. eqb z' left_bracket_kind) refl refl s sk y10)) (λ _. back_test (at m dot_kind s) (λ r'. at lm dot_kind (was m Live (token w j') r')) _ _ _ _ (λ qs' h'. has_was w (λ z'. at lm dot_kind (on [] 0 z')) (λ p' l' v'. refl) (token w j') (took_token w j') qs' h') (λ y11. absurd (no_slash (λ z'. eqb z' dot_kind) refl refl s sk y11)) (λ _. back_test (at m back_quote_kind s && not (is_chain t)) (λ r'. at lm back_quote_kind (was m Live (token w j') r') && not (is_chain t)) _ _ _ _ (λ qs' h'. has_was w (λ z'. at lm back_quote_kind (on [] 0 z') && not (is_chain t)) (λ p' l' v'. refl) (token w j') (took_token w j') qs' h') (λ y12. absurd (no_slash (λ z'. eqb z' back_quote_kind) refl refl s sk (and_first _ _ y12))) (λ _. back_never)))))))))))
 
   -- and where none comes
   step_plain : {e : ℕ} (s : State S) (c : Code) (ce : c.context.module_ ≡ modular) (start : State S) (startu : Path m Live start s) (t : Tree) (ns : is_slash (kind (input m s)) ≡ false) (sl' : Live.live s.source) → Backed m Live edge true e s (step_by m im c start t s) (λ r'. step_by lm il c (was m Live startu r') t r')
   unfolding step_by
-  step_plain s c ce start startu t ns sl' = back_at w {s = s} comma_kind (refl, refl, refl, refl) refl sl' _ _ _ _ (λ j1. back_past w {s = s} j1 _ (λ r' q'. (il.expr c assignment_level q' >>= λ e. Ok (extended t e.0 (spanned lm (was m Live startu r') e.1), e.1))) (back_then _ _ _ _ (echo.expr c ce assignment_level (past m s) (live_past w j1)) (λ e2a e2s e2u. back_ok {s = e2s} _ _ e2u.live (λ qs' h'. ap (λ (z' : ℕ). extended t e2a ((span z' (m.last e2s.source)))) (lo_was w (join (join startu (token w j1)) e2u) qs' h')) (extended_open t e2a ((spanned m start e2s)))))) (back_test (is_assign_op (kind (input m s))) (λ r'. is_assign_op (kind (input lm r'))) _ _ _ _ (λ qs' h'. agrees_plain w (λ z'. is_assign_op (kind (input lm (on [] 0 z')))) (λ p' l' v'. refl) s ns sl' qs' h') (λ y4. assign_by_backed s c ce start startu t (here_by w (λ z'. is_assign_op (kind (input lm (on [] 0 z')))) (refl, λ p' v'. refl) s sl' y4)) (λ _. back_two w {s = s} (λ z'. at lm question_mark_kind (on [] 0 z') && (kind2 (input lm (on [] 0 z')) == dot_kind)) ((λ p' q' l' v'. refl), (λ p' q' l' v'. refl), (λ n' p' q' l' v'. refl), (λ n' p' q' l' v'. refl), (λ n' p' l' v'. refl)) sl' _ _ _ _ (λ y5. back_test (nat_le call_level (level t)) (λ r'. nat_le call_level (level t)) _ _ _ _ (λ qs' h'. refl) (λ y6. back_past w {s = s} (here_at w question_mark_kind (refl, refl, refl, refl) refl s sl' (and_left _ _ y5)) _ (λ r' q'. chain_by lm il c (was m Live startu r') t (past lm q')) (back_past w {s = (past m s)} (here_second w (λ z'. kind2 (input lm (on [] 0 z')) == dot_kind) s (here_at w question_mark_kind (refl, refl, refl, refl) refl s sl' (and_left _ _ y5)) (λ p'. refl) (λ p' q' l'. refl) (and_right _ _ y5)) _ (λ r' q'. chain_by lm il c (was m Live (join startu (token w (here_at w question_mark_kind (refl, refl, refl, refl) refl s sl' (and_left _ _ y5)))) r') t q') (chain_by_backed (past m (past m s)) c ce start (join (join startu (token w (here_at w question_mark_kind (refl, refl, refl, refl) refl s sl' (and_left _ _ y5)))) (token w (here_second w (λ z'. kind2 (input lm (on [] 0 z')) == dot_kind) s (here_at w question_mark_kind (refl, refl, refl, refl) refl s sl' (and_left _ _ y5)) (λ p'. refl) (λ p' q' l'. refl) (and_right _ _ y5)))) t (live_past w (here_second w (λ z'. kind2 (input lm (on [] 0 z')) == dot_kind) s (here_at w question_mark_kind (refl, refl, refl, refl) refl s sl' (and_left _ _ y5)) (λ p'. refl) (λ p' q' l'. refl) (and_right _ _ y5)))))) (λ _. back_never)) (back_at w {s = s} question_mark_kind (refl, refl, refl, refl) refl sl' _ _ _ _ (λ j7. back_test (nat_le coalesce_level (level t)) (λ r'. nat_le coalesce_level (level t)) _ _ _ _ (λ qs' h'. refl) (λ y8. cond_by_backed s c ce start startu t j7) (λ _. back_never)) (back_test (operates c (kind (input m s))) (λ r'. operates c (kind (input lm r'))) _ _ _ _ (λ qs' h'. agrees_plain w (λ z'. operates c (kind (input lm (on [] 0 z')))) (λ p' l' v'. refl) s ns sl' qs' h') (λ y9. back_test (fits_left (kind (input m s)) t) (λ r'. fits_left (kind (input lm r')) t) _ _ _ _ (λ qs' h'. agrees_plain w (λ z'. fits_left (kind (input lm (on [] 0 z'))) t) (λ p' l' v'. refl) s ns sl' qs' h') (λ y10. binary_by_backed s c ce start startu t (here_by w (λ z'. operates c (kind (input lm (on [] 0 z')))) (refl, λ p' v'. refl) s sl' y9)) (λ _. back_never)) (λ _. back_test (between plus_plus_kind minus_minus_kind (kind (input m s))) (λ r'. between plus_plus_kind minus_minus_kind (kind (input lm r'))) _ _ _ _ (λ qs' h'. agrees_plain w (λ z'. between plus_plus_kind minus_minus_kind (kind (input lm (on [] 0 z')))) (λ p' l' v'. refl) s ns sl' qs' h') (λ y11. back_test (nat_le new_level (level t) && not (brk (input m s))) (λ r'. nat_le new_level (level t) && not (brk (input lm r'))) _ _ _ _ (λ qs' h'. agrees_plain w (λ z'. nat_le new_level (level t) && not (brk (input lm (on [] 0 z')))) (λ p' l' v'. refl) s ns sl' qs' h') (λ y12. back_past w {s = s} (here_by w (λ z'. between plus_plus_kind minus_minus_kind (kind (input lm (on [] 0 z')))) (refl, λ p' v'. refl) s sl' y11) _ (λ r' q'. Ok (update_expr (spanned lm (was m Live startu r') q') (kind (input lm r')) false t, q')) (back_ok {s = (past m s)} _ _ (live_past w (here_by w (λ z'. between plus_plus_kind minus_minus_kind (kind (input lm (on [] 0 z')))) (refl, λ p' v'. refl) s sl' y11)) (λ qs' h'. ap (λ (z' : ℕ). update_expr ((span z' (m.last (past m s).source))) ((kind (input lm (was m Live (token w (here_by w (λ z'. between plus_plus_kind minus_minus_kind (kind (input lm (on [] 0 z')))) (refl, λ p' v'. refl) s sl' y11)) (list_at m Live (past m s) qs'))))) false t) (lo_was w (join startu (token w (here_by w (λ z'. between plus_plus_kind minus_minus_kind (kind (input lm (on [] 0 z')))) (refl, λ p' v'. refl) s sl' y11))) qs' h') ∙ (ap (λ (z' : ℕ). update_expr ((spanned m start (past m s))) (z') false t) (kind_was w (token w (here_by w (λ z'. between plus_plus_kind minus_minus_kind (kind (input lm (on [] 0 z')))) (refl, λ p' v'. refl) s sl' y11)) (took_token w (here_by w (λ z'. between plus_plus_kind minus_minus_kind (kind (input lm (on [] 0 z')))) (refl, λ p' v'. refl) s sl' y11)) qs' h'))) ((λ i'. absurd (true≢false i')), (λ i'. absurd (true≢false i'))))) (λ _. back_never)) (λ _. back_test (not (nat_le call_level (level t))) (λ r'. not (nat_le call_level (level t))) _ _ _ _ (λ qs' h'. refl) (λ y13. back_never) (λ _. back_at w {s = s} left_paren_kind (refl, refl, refl, refl) refl sl' _ _ _ _ (λ j14. call_by_backed s c ce start startu t j14) (back_at w {s = s} left_bracket_kind (refl, refl, refl, refl) refl sl' _ _ _ _ (λ j15. index_by_backed s c ce start startu t j15) (back_at w {s = s} dot_kind (refl, refl, refl, refl) refl sl' _ _ _ _ (λ j16. member_by_backed s c ce start startu t j16) (back_test (at m back_quote_kind s && not (is_chain t)) (λ r'. at lm back_quote_kind r' && not (is_chain t)) _ _ _ _ (λ qs' h'. agrees_plain w (λ z'. at lm back_quote_kind (on [] 0 z') && not (is_chain t)) (λ p' l' v'. refl) s ns sl' qs' h') (λ y17. back_then _ _ _ _ (template_by_backed s c ce true (here_at w back_quote_kind (refl, refl, refl, refl) refl s sl' (and_left _ _ y17))) (λ q18a q18s q18u. back_ok {s = q18s} _ _ q18u.live (λ qs' h'. ap (λ (z' : ℕ). tagged_tpl ((span z' (m.last q18s.source))) t q18a) (lo_was w (join startu q18u) qs' h')) ((λ i'. absurd (true≢false i')), (λ i'. absurd (true≢false i'))))) (λ _. back_never)))))))))))
+  step_plain s c ce start startu t ns sl' = back_at w {s = s} comma_kind (refl, refl, refl, refl) refl sl' _ _ _ _ (λ j1. back_past w {s = s} j1 _ (λ r' q'. (il.expr c assignment_level q' >>= λ e. Ok (extended t e.0 (spanned lm (was m Live startu r') e.1), e.1))) (back_then _ _ _ _ (echo.expr c ce assignment_level (past m s) (live_past w j1)) (λ e2a e2s e2u. back_ok {s = e2s} _ _ e2u.live (λ qs' h'. ap (λ (z' : ℕ). extended t e2a ((span z' (m.last e2s.source)))) (lo_was w (join (join startu (token w j1)) e2u) qs' h')) (extended_open t e2a ((spanned m start e2s)))))) (back_test (is_assign_op (kind (input m s))) (λ r'. is_assign_op (kind (input lm r'))) _ _ _ _ (λ qs' h'. agrees_plain w (λ z'. is_assign_op (kind (input lm (on [] 0 z')))) (λ p' l' v'. refl) s ns sl' qs' h') (λ y4. assign_by_backed s c ce start startu t (here_by w (λ z'. is_assign_op (kind (input lm (on [] 0 z')))) (refl, λ p' v'. refl) s sl' y4)) (λ _. back_two w {s = s} (λ z'. at lm question_mark_kind (on [] 0 z') && (kind2 (input lm (on [] 0 z')) == dot_kind)) ((λ p' q' l' v'. refl), (λ p' q' l' v'. refl), (λ n' p' q' l' v'. refl), (λ n' p' q' l' v'. refl), (λ n' p' l' v'. refl)) sl' _ _ _ _ (λ y5. back_test (nat_le call_level (level t)) (λ r'. nat_le call_level (level t)) _ _ _ _ (λ qs' h'. refl) (λ y6. back_past w {s = s} (here_at w question_mark_kind (refl, refl, refl, refl) refl s sl' (and_first _ _ y5)) _ (λ r' q'. chain_by lm il c (was m Live startu r') t (past lm q')) (back_past w {s = (past m s)} (here_second w (λ z'. kind2 (input lm (on [] 0 z')) == dot_kind) s (here_at w question_mark_kind (refl, refl, refl, refl) refl s sl' (and_first _ _ y5)) (λ p'. refl) (λ p' q' l'. refl) (and_second _ _ y5)) _ (λ r' q'. chain_by lm il c (was m Live (join startu (token w (here_at w question_mark_kind (refl, refl, refl, refl) refl s sl' (and_first _ _ y5)))) r') t q') (chain_by_backed (past m (past m s)) c ce start (join (join startu (token w (here_at w question_mark_kind (refl, refl, refl, refl) refl s sl' (and_first _ _ y5)))) (token w (here_second w (λ z'. kind2 (input lm (on [] 0 z')) == dot_kind) s (here_at w question_mark_kind (refl, refl, refl, refl) refl s sl' (and_first _ _ y5)) (λ p'. refl) (λ p' q' l'. refl) (and_second _ _ y5)))) t (live_past w (here_second w (λ z'. kind2 (input lm (on [] 0 z')) == dot_kind) s (here_at w question_mark_kind (refl, refl, refl, refl) refl s sl' (and_first _ _ y5)) (λ p'. refl) (λ p' q' l'. refl) (and_second _ _ y5)))))) (λ _. back_never)) (back_at w {s = s} question_mark_kind (refl, refl, refl, refl) refl sl' _ _ _ _ (λ j7. back_test (nat_le coalesce_level (level t)) (λ r'. nat_le coalesce_level (level t)) _ _ _ _ (λ qs' h'. refl) (λ y8. cond_by_backed s c ce start startu t j7) (λ _. back_never)) (back_test (operates c (kind (input m s))) (λ r'. operates c (kind (input lm r'))) _ _ _ _ (λ qs' h'. agrees_plain w (λ z'. operates c (kind (input lm (on [] 0 z')))) (λ p' l' v'. refl) s ns sl' qs' h') (λ y9. back_test (fits_left (kind (input m s)) t) (λ r'. fits_left (kind (input lm r')) t) _ _ _ _ (λ qs' h'. agrees_plain w (λ z'. fits_left (kind (input lm (on [] 0 z'))) t) (λ p' l' v'. refl) s ns sl' qs' h') (λ y10. binary_by_backed s c ce start startu t (here_by w (λ z'. operates c (kind (input lm (on [] 0 z')))) (refl, λ p' v'. refl) s sl' y9)) (λ _. back_never)) (λ _. back_test (between plus_plus_kind minus_minus_kind (kind (input m s))) (λ r'. between plus_plus_kind minus_minus_kind (kind (input lm r'))) _ _ _ _ (λ qs' h'. agrees_plain w (λ z'. between plus_plus_kind minus_minus_kind (kind (input lm (on [] 0 z')))) (λ p' l' v'. refl) s ns sl' qs' h') (λ y11. back_test (nat_le new_level (level t) && not (brk (input m s))) (λ r'. nat_le new_level (level t) && not (brk (input lm r'))) _ _ _ _ (λ qs' h'. agrees_plain w (λ z'. nat_le new_level (level t) && not (brk (input lm (on [] 0 z')))) (λ p' l' v'. refl) s ns sl' qs' h') (λ y12. back_past w {s = s} (here_by w (λ z'. between plus_plus_kind minus_minus_kind (kind (input lm (on [] 0 z')))) (refl, λ p' v'. refl) s sl' y11) _ (λ r' q'. Ok (update_expr (spanned lm (was m Live startu r') q') (kind (input lm r')) false t, q')) (back_ok {s = (past m s)} _ _ (live_past w (here_by w (λ z'. between plus_plus_kind minus_minus_kind (kind (input lm (on [] 0 z')))) (refl, λ p' v'. refl) s sl' y11)) (λ qs' h'. ap (λ (z' : ℕ). update_expr ((span z' (m.last (past m s).source))) ((kind (input lm (was m Live (token w (here_by w (λ z'. between plus_plus_kind minus_minus_kind (kind (input lm (on [] 0 z')))) (refl, λ p' v'. refl) s sl' y11)) (list_at m Live (past m s) qs'))))) false t) (lo_was w (join startu (token w (here_by w (λ z'. between plus_plus_kind minus_minus_kind (kind (input lm (on [] 0 z')))) (refl, λ p' v'. refl) s sl' y11))) qs' h') ∙ (ap (λ (z' : ℕ). update_expr ((spanned m start (past m s))) (z') false t) (kind_was w (token w (here_by w (λ z'. between plus_plus_kind minus_minus_kind (kind (input lm (on [] 0 z')))) (refl, λ p' v'. refl) s sl' y11)) (took_token w (here_by w (λ z'. between plus_plus_kind minus_minus_kind (kind (input lm (on [] 0 z')))) (refl, λ p' v'. refl) s sl' y11)) qs' h'))) ((λ i'. absurd (true≢false i')), (λ i'. absurd (true≢false i'))))) (λ _. back_never)) (λ _. back_test (not (nat_le call_level (level t))) (λ r'. not (nat_le call_level (level t))) _ _ _ _ (λ qs' h'. refl) (λ y13. back_never) (λ _. back_at w {s = s} left_paren_kind (refl, refl, refl, refl) refl sl' _ _ _ _ (λ j14. call_by_backed s c ce start startu t j14) (back_at w {s = s} left_bracket_kind (refl, refl, refl, refl) refl sl' _ _ _ _ (λ j15. index_by_backed s c ce start startu t j15) (back_at w {s = s} dot_kind (refl, refl, refl, refl) refl sl' _ _ _ _ (λ j16. member_by_backed s c ce start startu t j16) (back_test (at m back_quote_kind s && not (is_chain t)) (λ r'. at lm back_quote_kind r' && not (is_chain t)) _ _ _ _ (λ qs' h'. agrees_plain w (λ z'. at lm back_quote_kind (on [] 0 z') && not (is_chain t)) (λ p' l' v'. refl) s ns sl' qs' h') (λ y17. back_then _ _ _ _ (template_by_backed s c ce true (here_at w back_quote_kind (refl, refl, refl, refl) refl s sl' (and_first _ _ y17))) (λ q18a q18s q18u. back_ok {s = q18s} _ _ q18u.live (λ qs' h'. ap (λ (z' : ℕ). tagged_tpl ((span z' (m.last q18s.source))) t q18a) (lo_was w (join startu q18u) qs' h')) ((λ i'. absurd (true≢false i')), (λ i'. absurd (true≢false i'))))) (λ _. back_never)))))))))))
 
   slash_here : (s : State S) → Live.live s.source → is_slash (kind (input m s)) ≡ true → Here m Live s
   slash_here s l e = here_by w (λ z. is_slash (kind_of z)) (refl, λ p v. refl) s l e
@@ -481,7 +482,7 @@ module _ {S : Type 0} {m : Stream S} {Live : Pairing m} {modular : Bool} (w : Pa
 
   pub private_in_backed : {e' : ℕ} (s : State S) (c : Code) (ce : c.context.module_ ≡ modular) (l : ℕ) (sl' : Live.live s.source) → Backed m Live edge true e' s (private_in m im c l s) (λ r'. private_in lm il c l r')
   unfolding private_in
-  private_in_backed s c ce l sl' = back_then _ _ _ _ (private_by_backed s sl') (λ p1a p1s p1u. back_if w {s = p1s} (λ z'. at lm in_kind (on [] 0 z') && (has_in c && nat_le l (binary_level in_kind))) ((λ p' q' l' v'. refl), (λ p' q' l' v'. refl), (λ p' l' v'. refl)) p1u.live _ _ _ _ (λ y3. back_then _ _ _ _ (binary_by_backed p1s c ce s p1u p1a (here_at w in_kind (refl, refl, refl, refl) refl p1s p1u.live (and_left _ _ y3))) (λ t4a t4s t4u. loop_by_backed t4s c ce l s (join p1u t4u) t4a t4u.live)) (back_never))
+  private_in_backed s c ce l sl' = back_then _ _ _ _ (private_by_backed s sl') (λ p1a p1s p1u. back_if w {s = p1s} (λ z'. at lm in_kind (on [] 0 z') && (has_in c && nat_le l (binary_level in_kind))) ((λ p' q' l' v'. refl), (λ p' q' l' v'. refl), (λ p' l' v'. refl)) p1u.live _ _ _ _ (λ y3. back_then _ _ _ _ (binary_by_backed p1s c ce s p1u p1a (here_at w in_kind (refl, refl, refl, refl) refl p1s p1u.live (and_first _ _ y3))) (λ t4a t4s t4u. loop_by_backed t4s c ce l s (join p1u t4u) t4a t4u.live)) (back_never))
 
   pub expr_from_backed : {e' : ℕ} (s : State S) (c : Code) (ce : c.context.module_ ≡ modular) (l : ℕ) (sl' : Live.live s.source) → Backed m Live edge true e' s (expr_from m im c l s) (λ r'. expr_from lm il c l r')
   unfolding expr_from

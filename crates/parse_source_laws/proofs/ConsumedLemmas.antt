@@ -1,6 +1,5 @@
 -- The readers of every depth read of a list that a source hands out what they read of the source; so programs are.
 use Rattle.std.proofs.Common.{◌≡◌, ℕ, zero, suc, Bool, true, false, ◌&&◌, cond, nat_lt, List, [], ◌∷◌, Option, Some, None, Result, Ok, Err, if◌then◌else◌, refl, sym, ap, ◌∙◌, true≢false}
-use Rattle.base_token.specs.declared.syntax.EsSyntax.{EsSyntax}
 use Rattle.tree_spec.specs.Tree.{Tree}
 use Rattle.grammar_spec.specs.Tokens.Input.{PlacedToken, Input, Code, content, in_list, script_code, module_code}
 use Rattle.grammar_spec.specs.Tokens.Operators.{closed_end}
@@ -21,6 +20,7 @@ use Rattle.parse_source_laws.proofs.Solids.{solids}
 use Rattle.parse_source_laws.proofs.ConsumedExpressions.{expr_by_backed}
 use Rattle.parse_source_laws.proofs.ConsumedStatements.{pat_by_backed, stmt_from_backed, body_by_backed, class_tail_by_backed}
 use Rattle.parse_source_laws.proofs.ConsumedModules.{program_by_backed}
+use Rattle.parse_source_laws.proofs.Codes.{code_of}
 
 -- ---- a program is read to the end
 
@@ -122,11 +122,6 @@ module _ {S : Type 0} {m : Stream S} {Live : Pairing m} {modular : Bool} (w : Pa
   }
 
 module _ {S : Type 0} (m : Stream S) (Live : S → Type 0) where
-  -- the code of a script, and that of a module
-  code_of : (modules : Bool) (x : EsSyntax) → (if modules then module_code x else script_code x).context.module_ ≡ modules
-  code_of true x = refl
-  code_of false x = refl
-
   finished_list : (s : State S) (t : Tree) (x : Result (Tree × State S) Fault) (y : State Input → Result (Tree × State Input) Fault) → Backed m (handed m Live) closed false closed_end s x y → Ends m (λ z. m.seen z.source ≡ []) x → (x >>= finish m) ≡ Ok t
       → (ps : List PlacedToken) × HandsOut m ps s.source × ((y (list_at m (handed m Live) s ps) >>= finish lm) ≡ Ok t)
   unfolding finish

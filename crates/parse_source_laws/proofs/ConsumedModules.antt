@@ -1,5 +1,6 @@
 -- Scripts and modules (ECMA-262, clause 16): what their rules read of a source is read of a list that it hands out.
 use Rattle.std.proofs.Common.{◌≡◌, ℕ, Bool, true, false, not, ◌&&◌, ◌||◌, cond, eqb, List, [], ◌∷◌, ◌++◌, Option, Some, None, Result, Ok, Err, inl, refl, sym, ap, ap₂, ◌∙◌, subst, true≢false, arith, eqb-true}
+use Rattle.base_proofs.proofs.Bools.{and_second}
 use Rattle.base_token.specs.declared.place.Span.{Span}
 use Rattle.base_token.specs.Kinds.{div_kind, div_assign_kind, left_brace_kind, right_brace_kind, comma_kind, str_kind, mul_kind, function_kind, class_kind, import_kind, default_kind, with_kind, shebang_kind, export_kind, as_kind, assert_kind, from_kind}
 use Rattle.base_token.specs.Tokens.{Content}
@@ -12,7 +13,7 @@ use Rattle.grammar_spec.specs.Reader.Expressions.{first, literal_by, function_ex
 use Rattle.grammar_spec.specs.Reader.Statements.{Body, starts_async}
 use Rattle.grammar_spec.specs.Reader.Modules.{line_of, string_by, export_name_by, local_by, attributes_by, source_by, named_import, named_export_item, specifier_step, specifiers_by, star_import, import_end, import_rest, import_default, import_decl_by, export_default, export_star, export_list, starts_declaration, export_by, starts_import, item_by, program_item, program_step, program_tree, program_rest, program_by}
 use Rattle.parse_source_laws.specs.Sources.{is_slash}
-use Rattle.parse_source_laws.proofs.Beside.{lm, on, and_right, same_line}
+use Rattle.parse_source_laws.proofs.Beside.{lm, on, same_line}
 use Rattle.parse_source_laws.proofs.Pairs.{Pairing, Paired}
 use Rattle.parse_source_laws.proofs.Backs.{closed, shown_good, back_two, list_at, Here, Path, was, Backed, Steps, Hands, join, stay, took_join, back_never, back_ok, back_weak, back_same, back_then, back_placed, back_test, step_all, step_test, live_past, token, took_token, back_past, agrees, here_by, back_if, back_at, back_eat, back_word, back_own, back_name, back_any, back_again, back_end, back_iterate_in, back_iterate, lo_was, first_was, content_was, text_was, past_is, Since, since_join, sat, lo_since, took_plain, since_two, hands_if, hands_then, back_turned, back_operand, Echoed}
 use Rattle.parse_source_laws.proofs.ConsumedStatements.{edge_shut}
@@ -48,7 +49,7 @@ module _ {S : Type 0} {m : Stream S} {Live : Pairing m} {modular : Bool} (w : Pa
 
   pub source_by_backed : {e' : ℕ} (s : State S) (c : Code) (ce : c.context.module_ ≡ modular) (sl' : Live.live s.source) → Backed m Live closed true e' s (source_by m im c s) (λ r'. source_by lm il c r')
   unfolding source_by
-  source_by_backed s c ce sl' = back_then _ _ _ _ (string_by_backed s sl') (λ f1a f1s f1u. back_if w {s = f1s} (λ z'. c.syntax.import_attributes && (at lm with_kind (on [] 0 z') || (at lm assert_kind (on [] 0 z') && not (brk (input lm (on [] 0 z')))))) ((λ p' q' l' v'. refl), (λ p' q' l' v'. refl), (λ p' l' v'. refl)) f1u.live _ _ _ _ (λ y3. back_weak _ (back_own w {s = f1s} c (here_by w (λ z'. at lm with_kind (on [] 0 z') || (at lm assert_kind (on [] 0 z') && not (brk (input lm (on [] 0 z'))))) (refl, λ p' v'. refl) f1s f1u.live (and_right (c.syntax.import_attributes) ((at m with_kind f1s || (at m assert_kind f1s && not (brk (input m f1s))))) y3)) _ _ (back_then _ _ _ _ (attributes_by_backed (past m f1s) c ce (live_past w (here_by w (λ z'. at lm with_kind (on [] 0 z') || (at lm assert_kind (on [] 0 z') && not (brk (input lm (on [] 0 z'))))) (refl, λ p' v'. refl) f1s f1u.live (and_right (c.syntax.import_attributes) ((at m with_kind f1s || (at m assert_kind f1s && not (brk (input m f1s))))) y3)))) (λ o5a o5s o5u. back_end w {s = o5s} c plain_end o5u.live (λ i'. absurd (true≢false i')) _ _ (λ e7 e7u. back_ok {s = e7} _ _ e7u.live (λ qs' h'. refl) ((λ i'. absurd (true≢false i')), (λ i'. absurd (true≢false i')))))))) (back_end w {s = f1s} c source_end f1u.live (λ i'. absurd (true≢false i')) _ _ (λ e8 e8u. back_ok {s = e8} _ _ e8u.live (λ qs' h'. refl) ((λ i'. absurd (true≢false i')), (λ i'. absurd (true≢false i'))))))
+  source_by_backed s c ce sl' = back_then _ _ _ _ (string_by_backed s sl') (λ f1a f1s f1u. back_if w {s = f1s} (λ z'. c.syntax.import_attributes && (at lm with_kind (on [] 0 z') || (at lm assert_kind (on [] 0 z') && not (brk (input lm (on [] 0 z')))))) ((λ p' q' l' v'. refl), (λ p' q' l' v'. refl), (λ p' l' v'. refl)) f1u.live _ _ _ _ (λ y3. back_weak _ (back_own w {s = f1s} c (here_by w (λ z'. at lm with_kind (on [] 0 z') || (at lm assert_kind (on [] 0 z') && not (brk (input lm (on [] 0 z'))))) (refl, λ p' v'. refl) f1s f1u.live (and_second (c.syntax.import_attributes) ((at m with_kind f1s || (at m assert_kind f1s && not (brk (input m f1s))))) y3)) _ _ (back_then _ _ _ _ (attributes_by_backed (past m f1s) c ce (live_past w (here_by w (λ z'. at lm with_kind (on [] 0 z') || (at lm assert_kind (on [] 0 z') && not (brk (input lm (on [] 0 z'))))) (refl, λ p' v'. refl) f1s f1u.live (and_second (c.syntax.import_attributes) ((at m with_kind f1s || (at m assert_kind f1s && not (brk (input m f1s))))) y3)))) (λ o5a o5s o5u. back_end w {s = o5s} c plain_end o5u.live (λ i'. absurd (true≢false i')) _ _ (λ e7 e7u. back_ok {s = e7} _ _ e7u.live (λ qs' h'. refl) ((λ i'. absurd (true≢false i')), (λ i'. absurd (true≢false i')))))))) (back_end w {s = f1s} c source_end f1u.live (λ i'. absurd (true≢false i')) _ _ (λ e8 e8u. back_ok {s = e8} _ _ e8u.live (λ qs' h'. refl) ((λ i'. absurd (true≢false i')), (λ i'. absurd (true≢false i'))))))
 
   string_off : (M : List PlacedToken) → is_word (kind_of M) ≡ true → eqb (kind_of M) str_kind ≡ false
   string_off M e = by_test (eqb (kind_of M) str_kind) (λ i. eqb-true (kind_of M) str_kind i)

@@ -20,7 +20,7 @@ use Rattle.parse_source_laws.proofs.ConsumedStatements.{pattern_prop_backed}
 use Rattle.parse_source_laws.proofs.ConsumedModules.{item_by_backed}
 use Rattle.parse_source_laws.proofs.ConsumedLemmas.{readers_echoed}
 
-edge_open : (a b : Bool) → nat_le closed_end (edge_by a b) ≡ false → a ≡ false
+pub edge_open : (a b : Bool) → nat_le closed_end (edge_by a b) ≡ false → a ≡ false
 edge_open true b e = absurd (true≢false e)
 edge_open false b e = refl
 

@@ -1,5 +1,6 @@
 -- Patterns, statements, functions and classes (ECMA-262, clauses 14 and 15): what their rules read of a source is read of a list that it hands out.
 use Rattle.std.proofs.Common.{◌≡◌, ◌⊎◌, ℕ, Bool, true, false, not, ◌&&◌, ◌||◌, ◌==◌, cond, eqb, nat_le, if◌then◌else◌, List, [], ◌∷◌, ◌++◌, Ok, inl, inr, refl, sym, ap, ap₂, ◌∙◌, subst, true≢false, eqb-true}
+use Rattle.base_proofs.proofs.Bools.{and_second, and_first, and_same}
 use Rattle.base_token.specs.declared.place.Span.{Span}
 use Rattle.base_token.specs.Kinds.{end_kind, semicolon_kind, hash_kind, dot_dot_dot_kind, left_paren_kind, right_paren_kind, left_bracket_kind, right_bracket_kind, left_brace_kind, right_brace_kind, comma_kind, colon_kind, mul_kind, assign_kind, await_kind, function_kind, class_kind, in_kind, async_kind, get_kind, set_kind, break_kind, case_kind, catch_kind, continue_kind, debugger_kind, default_kind, do_kind, else_kind, finally_kind, for_kind, if_kind, return_kind, switch_kind, throw_kind, try_kind, var_kind, let_kind, const_kind, while_kind, with_kind, extends_kind, of_kind, using_kind, static_kind, accessor_kind}
 use Rattle.tree_spec.specs.Tree.{Tree, rest_pat, function, none, pack, ident, binding_ident, assign_pat, absent, more, hole, plain_method, block_stmt, empty_stmt, debugger_stmt, with_stmt, return_stmt, labeled_stmt, break_stmt, continue_stmt, switch_stmt, switch_case, throw_stmt, try_stmt, catch_clause, while_stmt, do_while_stmt, for_stmt, for_in_stmt, for_of_stmt, expr_stmt, class_decl, fn_decl, var_decl, using_decl, var_declarator, class_prop, private_prop, static_block, auto_accessor, array_pat, object_pat, key_value_pat_prop, assign_pat_prop}
@@ -12,7 +13,7 @@ use Rattle.grammar_spec.specs.Reader.Statements.{constructor_of, has_default, on
 use Rattle.grammar_spec.specs.Reader.Statements.{statement_class}
 use Rattle.base_token.specs.Kinds.{error_kind}
 use Rattle.parse_source_laws.specs.Sources.{is_slash, Rereads, one, two}
-use Rattle.parse_source_laws.proofs.Beside.{kind_two, lm, on, regexp, slash, Plain, and_left, and_right, same_default, same_bare}
+use Rattle.parse_source_laws.proofs.Beside.{kind_two, lm, on, regexp, slash, Plain, same_default, same_bare}
 use Rattle.parse_source_laws.specs.Ahead.{ends_async}
 use Rattle.parse_source_laws.proofs.Pairs.{edge_by, edge, Keeps, Loose, Pairing, Paired}
 use Rattle.grammar_spec.specs.Tokens.Shape.{declarator_end}
@@ -21,20 +22,14 @@ use Rattle.parse_source_laws.proofs.Backs.{closed, calm, back_then_by, shut_keep
 use Rattle.parse_source_laws.proofs.ConsumedExpressions.{back_unnamed, function_by_backed, key_by_backed, key_then, private_by_backed, setter_parameter_backed, star_backed}
 
 module _ {S : Type 0} {m : Stream S} {Live : Pairing m} {modular : Bool} (w : Paired m Live modular) {il : Inner Input} {im : Inner S} (echo : Echoed m Live modular il im) where
-  and_same : (a b x y : Bool) → a ≡ b → (a ≡ true → x ≡ y) → (a && x) ≡ (b && y)
-  and_same true true x y e h = h refl
-  and_same false false x y e h = refl
-  and_same true false x y e h = absurd (true≢false e)
-  and_same false true x y e h = absurd (true≢false (sym e))
-
   using_same : (c : Code) (s : State S) → Live.live s.source → (qs : List PlacedToken) → Live.hands 1 qs s.source → starts_using lm il c (list_at m Live s qs) ≡ starts_using m im c s
   using_same c s a qs h = agrees_two w (λ z'. starts_using lm il c (on [] 0 z')) ((λ p' q' l' v'. refl), (λ p' q' l' v'. refl), (λ n' p' q' l' v'. refl), (λ n' p' q' l' v'. refl), (λ n' p' l' v'. refl)) s a qs h
 
   using_here : (c : Code) (s : State S) → Live.live s.source → starts_using m im c s ≡ true → Here m Live s
-  using_here c s a y = here_at w using_kind (refl, refl, refl, refl) refl s a (and_left _ _ (and_right c.syntax.explicit_resource_management (at m using_kind s && (may_name (kind2 (input m s)) && not (brk2 (input m s)))) y))
+  using_here c s a y = here_at w using_kind (refl, refl, refl, refl) refl s a (and_first _ _ (and_second c.syntax.explicit_resource_management (at m using_kind s && (may_name (kind2 (input m s)) && not (brk2 (input m s)))) y))
 
   using_at : (c : Code) (s : State S) → starts_using m im c s ≡ true → at m using_kind s ≡ true
-  using_at c s y = and_left _ _ (and_right c.syntax.explicit_resource_management (at m using_kind s && (may_name (kind2 (input m s)) && not (brk2 (input m s)))) y)
+  using_at c s y = and_first _ _ (and_second c.syntax.explicit_resource_management (at m using_kind s && (may_name (kind2 (input m s)) && not (brk2 (input m s)))) y)
 
   no_slash_at : (k : ℕ) → is_slash k ≡ false → (s : State S) → at m k s ≡ true → is_slash (kind (input m s)) ≡ false
   no_slash_at k e s y = ap is_slash (eqb-true (kind (input m s)) k y) ∙ e
@@ -79,8 +74,8 @@ module _ {S : Type 0} {m : Stream S} {Live : Pairing m} {modular : Bool} (w : Pa
           ap (λ l. not (eqb (kind_of (others (others l))) of_kind)) u.1 ∙ (ap (λ l. not (eqb (kind_of (others l)) of_kind)) v.1 ∙ (ap not (at_hand w of_kind (refl, refl, refl, refl) (past m (past m s)) (live_past w k) v.0 v.2) ∙ ap (λ (n : ℕ). not (eqb n of_kind)) (sym (third_at s j k))))
 
       by_source : starts_await_using m im c s ≡ true → not (kind2 (rest (input lm (list_at m Live s qs))) == of_kind) ≡ not (kind2 (rest (input m s)) == of_kind)
-      by_source y = let z = and_right c.context.in_async _ y in let at_ = and_left (at m await_kind s) _ z in by_using (here_at w await_kind (refl, refl, refl, refl) refl s a at_) at_
-          (and_right (not (brk2 (input m s))) _ (and_right (not (barred c.context (input m s))) _ (and_right (at m await_kind s) _ z)))
+      by_source y = let z = and_second c.context.in_async _ y in let at_ = and_first (at m await_kind s) _ z in by_using (here_at w await_kind (refl, refl, refl, refl) refl s a at_) at_
+          (and_second (not (brk2 (input m s))) _ (and_second (not (barred c.context (input m s))) _ (and_second (at m await_kind s) _ z)))
 
   await_of_told : (c : Code) (s : State S) → Live.live s.source → (qs : List PlacedToken) → (Live.hands 2 qs s.source ⊎ Rest w (λ z. ⊥) s qs) → (starts_await_using lm il c (list_at m Live s qs) && not (kind2 (rest (input lm (list_at m Live s qs))) == of_kind)) ≡ (starts_await_using m im c s && not (kind2 (rest (input m s)) == of_kind))
   await_of_told c s a qs (inl o) = await_of_same c s a qs o
@@ -99,7 +94,7 @@ module _ {S : Type 0} {m : Stream S} {Live : Pairing m} {modular : Bool} (w : Pa
 
       by_test : (t : Bool) → eqb k using_kind ≡ t → (b || not t) ≡ true
       by_test false i = by_break b
-      by_test true i = ap (λ (z : Bool). z || false) (and_left b g (subst (λ (n : ℕ). ((n == right_brace_kind) || ((n == end_kind) || (b && g))) ≡ true) (eqb-true k using_kind i) e))
+      by_test true i = ap (λ (z : Bool). z || false) (and_first b g (subst (λ (n : ℕ). ((n == right_brace_kind) || ((n == end_kind) || (b && g))) ≡ true) (eqb-true k using_kind i) e))
 
   off_same : (x y u v : Bool) → x ≡ y → x ≡ true → (not x && u) ≡ (not y && v)
   off_same true true u v e i = refl
@@ -140,17 +135,17 @@ module _ {S : Type 0} {m : Stream S} {Live : Pairing m} {modular : Bool} (w : Pa
       less : (a b d e : Bool) → (a || (b || (d && e))) ≡ true → (a || (b || d)) ≡ true
       less true b d e y = refl
       less false true d e y = refl
-      less false false d e y = and_left d e y
+      less false false d e y = and_first d e y
 
   variables_here : (c : Code) (s : State S) → Live.live s.source → starts_variables m im c s ≡ true → Here m Live s
   variables_here c s l y = head_here s l (less (at m var_kind s) c.listed (at m const_kind s || starts_let m im s) y)
     where
       less : (a b d : Bool) → (a || (b && d)) ≡ true → (a || d) ≡ true
       less true b d y = refl
-      less false b d y = and_right b d y
+      less false b d y = and_second b d y
 
   await_here : (c : Code) (s : State S) → Live.live s.source → starts_await_using m im c s ≡ true → Here m Live s
-  await_here c s l y = here_at w await_kind (refl, refl, refl, refl) refl s l (and_left _ _ (and_right c.context.in_async (at m await_kind s && (not (barred c.context (input m s)) && (not (brk2 (input m s)) && starts_using m im c (past m s)))) y))
+  await_here c s l y = here_at w await_kind (refl, refl, refl, refl) refl s l (and_first _ _ (and_second c.context.in_async (at m await_kind s && (not (barred c.context (input m s)) && (not (brk2 (input m s)) && starts_using m im c (past m s)))) y))
 
   class_was : (c : Code) (s : State S) {t : State S} (u : Path m Live s t) (e : Tree) (qs : List PlacedToken) → Live.hands 0 qs t.source → statement_class lm il c (list_at m Live s (u.back qs)) e ≡ statement_class m im c s e
   class_was c s u e qs h = ap (λ (b : Bool). if c.listed && (b && is_name e) then let_end else ends e) (at_was w let_kind (refl, refl, refl, refl) u qs h)
@@ -203,7 +198,7 @@ module _ {S : Type 0} {m : Stream S} {Live : Pairing m} {modular : Bool} (w : Pa
 
   pub after_item_backed : {e' : ℕ} (s : State S) (close : ℕ) (shut : Plain close) (shutf : eqb error_kind close ≡ false) (last : Bool) (items : List Tree) (sl' : Live.live s.source) → Backed m Live closed true e' s (after_item m im close last items s) (λ r'. after_item lm il close last items r')
   unfolding after_item
-  after_item_backed s close shut shutf last items sl' = back_if w {s = s} (λ z'. at lm comma_kind (on [] 0 z') && not last) ((λ p' q' l' v'. refl), (λ p' q' l' v'. refl), (λ p' l' v'. refl)) sl' _ _ _ _ (λ y1. back_past w {s = s} (here_at w comma_kind (refl, refl, refl, refl) refl s sl' (and_left _ _ y1)) _ (λ r' q'. Ok (go_on items, q')) (back_ok {s = (past m s)} _ _ (live_past w (here_at w comma_kind (refl, refl, refl, refl) refl s sl' (and_left _ _ y1))) (λ qs' h'. refl) ((λ i'. absurd (true≢false i')), (λ i'. absurd (true≢false i'))))) (back_eat w {s = s} close shut shutf sl' _ _ (λ j2. back_ok {s = (past m s)} _ _ (live_past w j2) (λ qs' h'. refl) ((λ i'. absurd (true≢false i')), (λ i'. absurd (true≢false i')))))
+  after_item_backed s close shut shutf last items sl' = back_if w {s = s} (λ z'. at lm comma_kind (on [] 0 z') && not last) ((λ p' q' l' v'. refl), (λ p' q' l' v'. refl), (λ p' l' v'. refl)) sl' _ _ _ _ (λ y1. back_past w {s = s} (here_at w comma_kind (refl, refl, refl, refl) refl s sl' (and_first _ _ y1)) _ (λ r' q'. Ok (go_on items, q')) (back_ok {s = (past m s)} _ _ (live_past w (here_at w comma_kind (refl, refl, refl, refl) refl s sl' (and_first _ _ y1))) (λ qs' h'. refl) ((λ i'. absurd (true≢false i')), (λ i'. absurd (true≢false i'))))) (back_eat w {s = s} close shut shutf sl' _ _ (λ j2. back_ok {s = (past m s)} _ _ (live_past w j2) (λ qs' h'. refl) ((λ i'. absurd (true≢false i')), (λ i'. absurd (true≢false i')))))
 
   pub array_item_backed : (s : State S) (c : Code) (ce : c.context.module_ ≡ modular) (xs : List Tree) (sl' : Live.live s.source) → Backed m Live closed true closed_end s (array_item m im c xs s) (λ r'. array_item lm il c xs r')
   unfolding array_item
@@ -325,7 +320,7 @@ module _ {S : Type 0} {m : Stream S} {Live : Pairing m} {modular : Bool} (w : Pa
 
   pub member_rest_backed : (s : State S) (c : Code) (ce : c.context.module_ ≡ modular) (start : State S) (startu : Path m Live start s) (is_static : Bool) (sl' : Live.live s.source) → Backed m Live closed true closed_end s (member_rest m im c start is_static s) (λ r'. member_rest lm il c (was m Live startu r') is_static r')
   unfolding member_rest
-  member_rest_backed s c ce start startu is_static sl' = back_at w {s = s} mul_kind (refl, refl, refl, refl) refl sl' _ _ _ _ (λ j1. generator_member_backed s c ce start startu is_static false sl') (back_two w {s = s} (λ z'. is_async_head lm il (on [] 0 z')) ((λ p' q' l' v'. refl), (λ p' q' l' v'. refl), (λ n' p' q' l' v'. refl), (λ n' p' q' l' v'. refl), (λ n' p' l' v'. refl)) sl' _ _ _ _ (λ y2. back_past w {s = s} (here_by w (λ z'. is_async_head lm il (on [] 0 z')) (refl, λ p' v'. refl) s sl' y2) _ (λ r' q'. generator_member lm il c (was m Live startu r') is_static true q') (generator_member_backed (past m s) c ce start (join startu (token w (here_by w (λ z'. is_async_head lm il (on [] 0 z')) (refl, λ p' v'. refl) s sl' y2))) is_static true (live_past w (here_by w (λ z'. is_async_head lm il (on [] 0 z')) (refl, λ p' v'. refl) s sl' y2)))) (back_two w {s = s} (λ z'. at lm get_kind (on [] 0 z') && starts_key (kind2 (input lm (on [] 0 z')))) ((λ p' q' l' v'. refl), (λ p' q' l' v'. refl), (λ n' p' q' l' v'. refl), (λ n' p' q' l' v'. refl), (λ n' p' l' v'. refl)) sl' _ _ _ _ (λ y3. class_getter_backed s c ce start startu is_static (here_at w get_kind (refl, refl, refl, refl) refl s sl' (and_left _ _ y3))) (back_two w {s = s} (λ z'. at lm set_kind (on [] 0 z') && starts_key (kind2 (input lm (on [] 0 z')))) ((λ p' q' l' v'. refl), (λ p' q' l' v'. refl), (λ n' p' q' l' v'. refl), (λ n' p' q' l' v'. refl), (λ n' p' l' v'. refl)) sl' _ _ _ _ (λ y4. class_setter_backed s c ce start startu is_static (here_at w set_kind (refl, refl, refl, refl) refl s sl' (and_left _ _ y4))) (back_two w {s = s} (λ z'. c.syntax.auto_accessors && (at lm accessor_kind (on [] 0 z') && (starts_key (kind2 (input lm (on [] 0 z'))) && not (brk2 (input lm (on [] 0 z')))))) ((λ p' q' l' v'. refl), (λ p' q' l' v'. refl), (λ n' p' q' l' v'. refl), (λ n' p' q' l' v'. refl), (λ n' p' l' v'. refl)) sl' _ _ _ _ (λ y5. accessor_by_backed s c ce start startu is_static (here_at w accessor_kind (refl, refl, refl, refl) refl s sl' (and_left _ _ (and_right (c.syntax.auto_accessors) ((at m accessor_kind s && (starts_key (kind2 (input m s)) && not (brk2 (input m s))))) y5)))) (field_or_method_backed s c ce start startu is_static sl')))))
+  member_rest_backed s c ce start startu is_static sl' = back_at w {s = s} mul_kind (refl, refl, refl, refl) refl sl' _ _ _ _ (λ j1. generator_member_backed s c ce start startu is_static false sl') (back_two w {s = s} (λ z'. is_async_head lm il (on [] 0 z')) ((λ p' q' l' v'. refl), (λ p' q' l' v'. refl), (λ n' p' q' l' v'. refl), (λ n' p' q' l' v'. refl), (λ n' p' l' v'. refl)) sl' _ _ _ _ (λ y2. back_past w {s = s} (here_by w (λ z'. is_async_head lm il (on [] 0 z')) (refl, λ p' v'. refl) s sl' y2) _ (λ r' q'. generator_member lm il c (was m Live startu r') is_static true q') (generator_member_backed (past m s) c ce start (join startu (token w (here_by w (λ z'. is_async_head lm il (on [] 0 z')) (refl, λ p' v'. refl) s sl' y2))) is_static true (live_past w (here_by w (λ z'. is_async_head lm il (on [] 0 z')) (refl, λ p' v'. refl) s sl' y2)))) (back_two w {s = s} (λ z'. at lm get_kind (on [] 0 z') && starts_key (kind2 (input lm (on [] 0 z')))) ((λ p' q' l' v'. refl), (λ p' q' l' v'. refl), (λ n' p' q' l' v'. refl), (λ n' p' q' l' v'. refl), (λ n' p' l' v'. refl)) sl' _ _ _ _ (λ y3. class_getter_backed s c ce start startu is_static (here_at w get_kind (refl, refl, refl, refl) refl s sl' (and_first _ _ y3))) (back_two w {s = s} (λ z'. at lm set_kind (on [] 0 z') && starts_key (kind2 (input lm (on [] 0 z')))) ((λ p' q' l' v'. refl), (λ p' q' l' v'. refl), (λ n' p' q' l' v'. refl), (λ n' p' q' l' v'. refl), (λ n' p' l' v'. refl)) sl' _ _ _ _ (λ y4. class_setter_backed s c ce start startu is_static (here_at w set_kind (refl, refl, refl, refl) refl s sl' (and_first _ _ y4))) (back_two w {s = s} (λ z'. c.syntax.auto_accessors && (at lm accessor_kind (on [] 0 z') && (starts_key (kind2 (input lm (on [] 0 z'))) && not (brk2 (input lm (on [] 0 z')))))) ((λ p' q' l' v'. refl), (λ p' q' l' v'. refl), (λ n' p' q' l' v'. refl), (λ n' p' q' l' v'. refl), (λ n' p' l' v'. refl)) sl' _ _ _ _ (λ y5. accessor_by_backed s c ce start startu is_static (here_at w accessor_kind (refl, refl, refl, refl) refl s sl' (and_first _ _ (and_second (c.syntax.auto_accessors) ((at m accessor_kind s && (starts_key (kind2 (input m s)) && not (brk2 (input m s))))) y5)))) (field_or_method_backed s c ce start startu is_static sl')))))
 
   pub static_by_backed : {e' : ℕ} (s : State S) (c : Code) (ce : c.context.module_ ≡ modular) (sl' : Live.live s.source) → Backed m Live closed true e' s (static_by m im c s) (λ r'. static_by lm il c r')
   unfolding static_by
@@ -526,7 +521,7 @@ module _ {S : Type 0} {m : Stream S} {Live : Pairing m} {modular : Bool} (w : Pa
 
   pub for_head_backed : (s : State S) (c : Code) (ce : c.context.module_ ≡ modular) (start : State S) (startu : Path m Live start s) (awaits : Bool) (sl' : Live.live s.source) → Backed m Live closed true closed_end s (for_head m im c start awaits s) (λ r'. for_head lm il c (was m Live startu r') awaits r')
   unfolding for_head
-  for_head_backed s c ce start startu awaits sl' = back_at w {s = s} semicolon_kind (refl, refl, refl, refl) refl sl' _ _ _ _ (λ j1. back_test awaits (λ r'. awaits) _ _ _ _ (λ qs' h'. refl) (λ y2. back_never) (λ _. for_rest_backed s c ce start startu absent sl')) (back_test_two w (at m var_kind s || (at m const_kind s || starts_let m im s)) (λ r'. at lm var_kind r' || (at lm const_kind r' || starts_let lm il r')) _ _ _ _ (λ qs' h'. agrees_two w (λ z'. at lm var_kind (on [] 0 z') || (at lm const_kind (on [] 0 z') || starts_let lm il (on [] 0 z'))) ((λ p' q' l' v'. refl), (λ p' q' l' v'. refl), (λ n' p' q' l' v'. refl), (λ n' p' q' l' v'. refl), (λ n' p' l' v'. refl)) s sl' qs' h') (λ y3. for_variables_backed s c ce start startu awaits (head_here s sl' y3)) (λ _. back_test_two w (starts_using m im c s && not (kind2 (input m s) == of_kind)) (λ r'. starts_using lm il c r' && not (kind2 (input lm r') == of_kind)) _ _ _ _ (λ qs' h'. using_of_same c s sl' qs' h') (λ y4. back_same _ (λ r'. for_using lm il c ((was m Live startu r')) awaits ((was m Live (stay {s = s} sl') r')) false r') (λ r'. for_using lm il c (was m Live startu r') awaits r' false r') (λ qs' h'. refl) (for_using_backed s c ce start startu awaits s (stay {s = s} sl') false sl')) (λ _. bides_back w _ _ (bides_test w (starts_await_using m im c s && not (kind2 (rest (input m s)) == of_kind)) (λ r'. starts_await_using lm il c r' && not (kind2 (rest (input lm r')) == of_kind)) _ _ _ _ (λ qs' h' o'. await_of_told c s sl' qs' o') (λ y5. bides_past w {s = s} (await_here c s sl' (and_left (starts_await_using m im c s) (not (kind2 (rest (input m s)) == of_kind)) y5)) _ (λ r' q'. for_using lm il c (was m Live startu r') awaits r' true q') (for_using_backed (past m s) c ce start (join startu (token w (await_here c s sl' (and_left (starts_await_using m im c s) (not (kind2 (rest (input m s)) == of_kind)) y5)))) awaits s (token w (await_here c s sl' (and_left (starts_await_using m im c s) (not (kind2 (rest (input m s)) == of_kind)) y5))) true (live_past w (await_here c s sl' (and_left (starts_await_using m im c s) (not (kind2 (rest (input m s)) == of_kind)) y5))))) (λ _. for_expression_bides s c ce start startu awaits sl')))))
+  for_head_backed s c ce start startu awaits sl' = back_at w {s = s} semicolon_kind (refl, refl, refl, refl) refl sl' _ _ _ _ (λ j1. back_test awaits (λ r'. awaits) _ _ _ _ (λ qs' h'. refl) (λ y2. back_never) (λ _. for_rest_backed s c ce start startu absent sl')) (back_test_two w (at m var_kind s || (at m const_kind s || starts_let m im s)) (λ r'. at lm var_kind r' || (at lm const_kind r' || starts_let lm il r')) _ _ _ _ (λ qs' h'. agrees_two w (λ z'. at lm var_kind (on [] 0 z') || (at lm const_kind (on [] 0 z') || starts_let lm il (on [] 0 z'))) ((λ p' q' l' v'. refl), (λ p' q' l' v'. refl), (λ n' p' q' l' v'. refl), (λ n' p' q' l' v'. refl), (λ n' p' l' v'. refl)) s sl' qs' h') (λ y3. for_variables_backed s c ce start startu awaits (head_here s sl' y3)) (λ _. back_test_two w (starts_using m im c s && not (kind2 (input m s) == of_kind)) (λ r'. starts_using lm il c r' && not (kind2 (input lm r') == of_kind)) _ _ _ _ (λ qs' h'. using_of_same c s sl' qs' h') (λ y4. back_same _ (λ r'. for_using lm il c ((was m Live startu r')) awaits ((was m Live (stay {s = s} sl') r')) false r') (λ r'. for_using lm il c (was m Live startu r') awaits r' false r') (λ qs' h'. refl) (for_using_backed s c ce start startu awaits s (stay {s = s} sl') false sl')) (λ _. bides_back w _ _ (bides_test w (starts_await_using m im c s && not (kind2 (rest (input m s)) == of_kind)) (λ r'. starts_await_using lm il c r' && not (kind2 (rest (input lm r')) == of_kind)) _ _ _ _ (λ qs' h' o'. await_of_told c s sl' qs' o') (λ y5. bides_past w {s = s} (await_here c s sl' (and_first (starts_await_using m im c s) (not (kind2 (rest (input m s)) == of_kind)) y5)) _ (λ r' q'. for_using lm il c (was m Live startu r') awaits r' true q') (for_using_backed (past m s) c ce start (join startu (token w (await_here c s sl' (and_first (starts_await_using m im c s) (not (kind2 (rest (input m s)) == of_kind)) y5)))) awaits s (token w (await_here c s sl' (and_first (starts_await_using m im c s) (not (kind2 (rest (input m s)) == of_kind)) y5))) true (live_past w (await_here c s sl' (and_first (starts_await_using m im c s) (not (kind2 (rest (input m s)) == of_kind)) y5))))) (λ _. for_expression_bides s c ce start startu awaits sl')))))
 
   pub for_by_backed : {e' : ℕ} (s : State S) (c : Code) (ce : c.context.module_ ≡ modular) (sl' : Live.live s.source) → Backed m Live closed true e' s (for_by m im c s) (λ r'. for_by lm il c r')
   unfolding for_by
@@ -540,7 +535,7 @@ module _ {S : Type 0} {m : Stream S} {Live : Pairing m} {modular : Bool} (w : Pa
   unfolding expression_by
   expression_by_bides s c ce sl' = bides_test w (at m let_kind s && (kind2 (input m s) == left_bracket_kind)) (λ r'. at lm let_kind r' && (kind2 (input lm r') == left_bracket_kind)) _ _ _ _ (λ qs' h' o'. let_told Calm s sl' qs' o') (λ y1. record { so = tt }) (λ _. bides_then w {Q = Calm} _ _ _ _ (echo.expr c ce expression_level s sl')
       (λ e2a e2s e2u. bides_test w (is_name e2a && at m colon_kind e2s) (λ r'. is_name e2a && at lm colon_kind r') _ _ _ _ (λ qs' h' o'. agrees w (λ z'. is_name e2a && at lm colon_kind (on [] 0 z')) ((λ p' q' l' v'. refl), (λ p' q' l' v'. refl), (λ p' l' v'. refl)) e2s e2u.live qs' h')
-      (λ y4. bides_weak w _ _ (bides_one w _ _ (labelled_by_backed e2s c ce s e2u e2a (here_at w colon_kind (refl, refl, refl, refl) refl e2s e2u.live (and_right (is_name e2a) (at m colon_kind e2s) y4)))))
+      (λ y4. bides_weak w _ _ (bides_one w _ _ (labelled_by_backed e2s c ce s e2u e2a (here_at w colon_kind (refl, refl, refl, refl) refl e2s e2u.live (and_second (is_name e2a) (at m colon_kind e2s) y4)))))
       (λ _. bides_same w _ (λ r'. end_of lm c (statement_class m im c s e2a) r' >>= λ q'. Ok (expr_stmt (spanned lm (was m Live e2u r') q') e2a, q')) (λ r'. end_of lm c (statement_class lm il c (was m Live e2u r') e2a) r' >>= λ q'. Ok (expr_stmt (spanned lm (was m Live e2u r') q') e2a, q')) (λ qs' h' o'. ap (λ (z' : ℕ). end_of lm c z' (list_at m Live e2s qs') >>= λ q'. Ok (expr_stmt (spanned lm (was m Live e2u (list_at m Live e2s qs')) q') e2a, q')) (class_was c s e2u e2a qs' h'))
       (bides_end w {s = e2s} c (statement_class m im c s e2a) e2u.live (λ i'. class_loose c s e2a i') (λ a' b' qs' h'. agrees w (λ z'. break_of z' || not (kind_of z' == using_kind)) ((λ p' q' l' v'. refl), (λ p' q' l' v'. refl), (λ p' l' v'. refl)) e2s e2u.live qs' h' ∙ pause_by (kind (input m e2s)) (brk (input m e2s)) _ b') _ _ (λ r5 r5u. back_ok {s = r5} _ _ r5u.live (λ qs' h'. ap (λ (z' : ℕ). expr_stmt ((span z' (m.last r5.source))) e2a) (lo_was w (join e2u r5u) qs' h')) ((λ i'. absurd (true≢false i')), (λ i'. absurd (true≢false i'))))))))
 
@@ -549,7 +544,7 @@ module _ {S : Type 0} {m : Stream S} {Live : Pairing m} {modular : Bool} (w : Pa
 
   pub keyword_stmt_backed : (s : State S) (c : Code) (ce : c.context.module_ ≡ modular) (sl' : Live.live s.source) → Backed m Live closed true closed_end s (keyword_stmt m im c s) (λ r'. keyword_stmt lm il c r')
   unfolding keyword_stmt
-  keyword_stmt_backed s c ce sl' = back_at w {s = s} if_kind (refl, refl, refl, refl) refl sl' _ _ _ _ (λ j1. if_by_backed s c ce sl') (back_at w {s = s} return_kind (refl, refl, refl, refl) refl sl' _ _ _ _ (λ j2. return_by_backed s c ce sl') (back_at w {s = s} for_kind (refl, refl, refl, refl) refl sl' _ _ _ _ (λ j3. for_by_backed s c ce sl') (back_at w {s = s} while_kind (refl, refl, refl, refl) refl sl' _ _ _ _ (λ j4. while_by_backed s c ce sl') (back_at w {s = s} do_kind (refl, refl, refl, refl) refl sl' _ _ _ _ (λ j5. do_by_backed s c ce sl') (back_at w {s = s} switch_kind (refl, refl, refl, refl) refl sl' _ _ _ _ (λ j6. switch_by_backed s c ce sl') (back_at w {s = s} try_kind (refl, refl, refl, refl) refl sl' _ _ _ _ (λ j7. try_by_backed s c ce sl') (back_at w {s = s} throw_kind (refl, refl, refl, refl) refl sl' _ _ _ _ (λ j8. throw_by_backed s c ce sl') (back_at w {s = s} break_kind (refl, refl, refl, refl) refl sl' _ _ _ _ (λ j9. jump_by_backed s break_kind (refl, refl, refl, refl) refl break_stmt c ce sl') (back_at w {s = s} continue_kind (refl, refl, refl, refl) refl sl' _ _ _ _ (λ j10. jump_by_backed s continue_kind (refl, refl, refl, refl) refl continue_stmt c ce sl') (back_at w {s = s} with_kind (refl, refl, refl, refl) refl sl' _ _ _ _ (λ j11. with_by_backed s c ce sl') (back_at w {s = s} debugger_kind (refl, refl, refl, refl) refl sl' _ _ _ _ (λ j12. debugger_by_backed s c ce sl') (back_at w {s = s} function_kind (refl, refl, refl, refl) refl sl' _ _ _ _ (λ j13. back_same _ (λ r'. function_decl_by lm il c ((was m Live (stay {s = s} sl') r')) false r') (λ r'. function_decl_by lm il c r' false r') (λ qs' h'. refl) (function_decl_by_backed s c ce s (stay {s = s} sl') false sl')) (back_at w {s = s} class_kind (refl, refl, refl, refl) refl sl' _ _ _ _ (λ j14. back_test (c.listed) (λ r'. c.listed) _ _ _ _ (λ qs' h'. refl) (λ y15. class_decl_by_backed s c ce sl') (λ _. back_never)) (back_two w {s = s} (λ z'. starts_async lm il (on [] 0 z')) ((λ p' q' l' v'. refl), (λ p' q' l' v'. refl), (λ n' p' q' l' v'. refl), (λ n' p' q' l' v'. refl), (λ n' p' l' v'. refl)) sl' _ _ _ _ (λ y16. back_test (c.listed) (λ r'. c.listed) _ _ _ _ (λ qs' h'. refl) (λ y17. back_past w {s = s} (here_by w (λ z'. starts_async lm il (on [] 0 z')) (refl, λ p' v'. refl) s sl' y16) _ (λ r' q'. function_decl_by lm il c r' true q') (function_decl_by_backed (past m s) c ce s (token w (here_by w (λ z'. starts_async lm il (on [] 0 z')) (refl, λ p' v'. refl) s sl' y16)) true (live_past w (here_by w (λ z'. starts_async lm il (on [] 0 z')) (refl, λ p' v'. refl) s sl' y16)))) (λ _. back_never)) (back_test_two w (starts_variables m im c s) (λ r'. starts_variables lm il c r') _ _ _ _ (λ qs' h'. agrees_two w (λ z'. starts_variables lm il c (on [] 0 z')) ((λ p' q' l' v'. refl), (λ p' q' l' v'. refl), (λ n' p' q' l' v'. refl), (λ n' p' q' l' v'. refl), (λ n' p' l' v'. refl)) s sl' qs' h') (λ y18. variables_by_backed s c ce (variables_here c s sl' y18)) (λ _. back_two w {s = s} (λ z'. c.listed && starts_using lm il c (on [] 0 z')) ((λ p' q' l' v'. refl), (λ p' q' l' v'. refl), (λ n' p' q' l' v'. refl), (λ n' p' q' l' v'. refl), (λ n' p' l' v'. refl)) sl' _ _ _ _ (λ y19. back_same _ (λ r'. using_by lm il c ((was m Live (stay {s = s} sl') r')) false r') (λ r'. using_by lm il c r' false r') (λ qs' h'. refl) (using_by_backed s c ce s (stay {s = s} sl') false sl')) (bides_back w _ _ (bides_test w (c.listed && starts_await_using m im c s) (λ r'. c.listed && starts_await_using lm il c r') _ _ _ _ (λ qs' h' o'. ap (λ (b' : Bool). c.listed && b') (await_told c s sl' qs' o')) (λ y20. bides_past w {s = s} (await_here c s sl' (and_right c.listed (starts_await_using m im c s) y20)) _ (λ r' q'. using_by lm il c r' true q') (using_by_backed (past m s) c ce s (token w (await_here c s sl' (and_right c.listed (starts_await_using m im c s) y20))) true (live_past w (await_here c s sl' (and_right c.listed (starts_await_using m im c s) y20))))) (λ _. expression_by_bides s c ce sl')))))))))))))))))))
+  keyword_stmt_backed s c ce sl' = back_at w {s = s} if_kind (refl, refl, refl, refl) refl sl' _ _ _ _ (λ j1. if_by_backed s c ce sl') (back_at w {s = s} return_kind (refl, refl, refl, refl) refl sl' _ _ _ _ (λ j2. return_by_backed s c ce sl') (back_at w {s = s} for_kind (refl, refl, refl, refl) refl sl' _ _ _ _ (λ j3. for_by_backed s c ce sl') (back_at w {s = s} while_kind (refl, refl, refl, refl) refl sl' _ _ _ _ (λ j4. while_by_backed s c ce sl') (back_at w {s = s} do_kind (refl, refl, refl, refl) refl sl' _ _ _ _ (λ j5. do_by_backed s c ce sl') (back_at w {s = s} switch_kind (refl, refl, refl, refl) refl sl' _ _ _ _ (λ j6. switch_by_backed s c ce sl') (back_at w {s = s} try_kind (refl, refl, refl, refl) refl sl' _ _ _ _ (λ j7. try_by_backed s c ce sl') (back_at w {s = s} throw_kind (refl, refl, refl, refl) refl sl' _ _ _ _ (λ j8. throw_by_backed s c ce sl') (back_at w {s = s} break_kind (refl, refl, refl, refl) refl sl' _ _ _ _ (λ j9. jump_by_backed s break_kind (refl, refl, refl, refl) refl break_stmt c ce sl') (back_at w {s = s} continue_kind (refl, refl, refl, refl) refl sl' _ _ _ _ (λ j10. jump_by_backed s continue_kind (refl, refl, refl, refl) refl continue_stmt c ce sl') (back_at w {s = s} with_kind (refl, refl, refl, refl) refl sl' _ _ _ _ (λ j11. with_by_backed s c ce sl') (back_at w {s = s} debugger_kind (refl, refl, refl, refl) refl sl' _ _ _ _ (λ j12. debugger_by_backed s c ce sl') (back_at w {s = s} function_kind (refl, refl, refl, refl) refl sl' _ _ _ _ (λ j13. back_same _ (λ r'. function_decl_by lm il c ((was m Live (stay {s = s} sl') r')) false r') (λ r'. function_decl_by lm il c r' false r') (λ qs' h'. refl) (function_decl_by_backed s c ce s (stay {s = s} sl') false sl')) (back_at w {s = s} class_kind (refl, refl, refl, refl) refl sl' _ _ _ _ (λ j14. back_test (c.listed) (λ r'. c.listed) _ _ _ _ (λ qs' h'. refl) (λ y15. class_decl_by_backed s c ce sl') (λ _. back_never)) (back_two w {s = s} (λ z'. starts_async lm il (on [] 0 z')) ((λ p' q' l' v'. refl), (λ p' q' l' v'. refl), (λ n' p' q' l' v'. refl), (λ n' p' q' l' v'. refl), (λ n' p' l' v'. refl)) sl' _ _ _ _ (λ y16. back_test (c.listed) (λ r'. c.listed) _ _ _ _ (λ qs' h'. refl) (λ y17. back_past w {s = s} (here_by w (λ z'. starts_async lm il (on [] 0 z')) (refl, λ p' v'. refl) s sl' y16) _ (λ r' q'. function_decl_by lm il c r' true q') (function_decl_by_backed (past m s) c ce s (token w (here_by w (λ z'. starts_async lm il (on [] 0 z')) (refl, λ p' v'. refl) s sl' y16)) true (live_past w (here_by w (λ z'. starts_async lm il (on [] 0 z')) (refl, λ p' v'. refl) s sl' y16)))) (λ _. back_never)) (back_test_two w (starts_variables m im c s) (λ r'. starts_variables lm il c r') _ _ _ _ (λ qs' h'. agrees_two w (λ z'. starts_variables lm il c (on [] 0 z')) ((λ p' q' l' v'. refl), (λ p' q' l' v'. refl), (λ n' p' q' l' v'. refl), (λ n' p' q' l' v'. refl), (λ n' p' l' v'. refl)) s sl' qs' h') (λ y18. variables_by_backed s c ce (variables_here c s sl' y18)) (λ _. back_two w {s = s} (λ z'. c.listed && starts_using lm il c (on [] 0 z')) ((λ p' q' l' v'. refl), (λ p' q' l' v'. refl), (λ n' p' q' l' v'. refl), (λ n' p' q' l' v'. refl), (λ n' p' l' v'. refl)) sl' _ _ _ _ (λ y19. back_same _ (λ r'. using_by lm il c ((was m Live (stay {s = s} sl') r')) false r') (λ r'. using_by lm il c r' false r') (λ qs' h'. refl) (using_by_backed s c ce s (stay {s = s} sl') false sl')) (bides_back w _ _ (bides_test w (c.listed && starts_await_using m im c s) (λ r'. c.listed && starts_await_using lm il c r') _ _ _ _ (λ qs' h' o'. ap (λ (b' : Bool). c.listed && b') (await_told c s sl' qs' o')) (λ y20. bides_past w {s = s} (await_here c s sl' (and_second c.listed (starts_await_using m im c s) y20)) _ (λ r' q'. using_by lm il c r' true q') (using_by_backed (past m s) c ce s (token w (await_here c s sl' (and_second c.listed (starts_await_using m im c s) y20))) true (live_past w (await_here c s sl' (and_second c.listed (starts_await_using m im c s) y20))))) (λ _. expression_by_bides s c ce sl')))))))))))))))))))
 
   pub stmt_by_backed : (s : State S) (c : Code) (ce : c.context.module_ ≡ modular) (sl' : Live.live s.source) → Backed m Live closed true closed_end s (stmt_by m im c s) (λ r'. stmt_by lm il c r')
   unfolding stmt_by

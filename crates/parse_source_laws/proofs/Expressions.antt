@@ -1,5 +1,6 @@
 -- Expressions (ECMA-262, clause 13): their rules over a source and over the list that it hands out.
 use Rattle.std.proofs.Common.{◌≡◌, ◌≤◌, ℕ, Bool, true, false, not, ◌&&◌, ◌||◌, ◌==◌, cond, eqb, nat_le, nat_lt, if◌then◌else◌, List, [], ◌∷◌, ◌++◌, Option, Some, None, Result, Ok, Err, inl, inr, refl, sym, ap, ap₂, ◌∙◌, subst, true≢false, arith, le_refl, ltb-true, lt-ltb}
+use Rattle.base_proofs.proofs.Bools.{and_second, and_first}
 use Rattle.base_token.specs.declared.place.Span.{Span}
 use Rattle.base_token.specs.Kinds.{div_kind, div_assign_kind, arrow_kind, hash_kind, dot_kind, dot_dot_dot_kind, left_paren_kind, right_paren_kind, left_bracket_kind, right_bracket_kind, left_brace_kind, right_brace_kind, comma_kind, back_quote_kind, template_kind, colon_kind, dollar_brace_kind, question_mark_kind, str_kind, num_kind, big_int_kind, regex_kind, mul_kind, assign_kind, null_kind, true_kind, false_kind, await_kind, function_kind, class_kind, new_kind, this_kind, super_kind, import_kind, yield_kind, in_kind, plus_plus_kind, minus_minus_kind, async_kind, meta_kind, target_kind, get_kind, set_kind}
 use Rattle.base_token.specs.Tokens.{Content, Quoted, Pattern, Numeral, BigNumeral}
@@ -11,7 +12,7 @@ use Rattle.grammar_spec.specs.Reader.Source.{Fault, Unexpected, unexpected, ◌>
 use Rattle.grammar_spec.specs.Reader.Cover.{last_rests, to_target}
 use Rattle.grammar_spec.specs.Reader.Expressions.{Elements, Spans, literal, only_kind, joined, extended, is_read, last_end, plain_elements, no_elements, is_unary, first, literal_by, element_by, after_element, element_step, elements_by, noted, array_by, computed_by, key_by, private_by, parameter_by, is_rest_param, parameter_step, parameters_by, function_by, setter_parameter, pattern_of, is_accessor, is_async_head, star, method_prop_by, getter_by, setter_by, prop_rest, prop_by, prop_step, object_by, quasi, quasi_end, quasi_step, template_by, arrows, arrows_at, arrow_by, params_of, heads_params, group_end, group_by, ident_end, arguments_by, async_group, function_expr_name, function_expr_by, is_async_param, async_by, class_expr_by, new_end, callee_by, new_by, super_end, fits_import, import_by, unary_by, update_by, await_by, ends_yield, yield_end, yield_by, word_by, fixed, keyword_by, prefix_by, member_name, on_chain, member_by, index_by, call_tree, call_by, chain_by, cond_by, assign_by, binary_by, step_by, loop_step, loop_by, private_in, expr_from, expr_by}
 use Rattle.parse_source_laws.specs.Sources.{is_slash, Rereads, HandsOut, Orderly}
-use Rattle.parse_source_laws.proofs.Beside.{lm, on, Ceiling, kinded, regexp, reread, Plain, and_left, and_right, Beside, Joined, Told, agree1, agree2, at_same, lo_same, span_same, joined_to, joined_by, joined_at, joined_other, joined2, has_same, first_same, hi_as, kind_as, text_as, content_as, told_ok, never, told_then, told_if, told_at, told_pure, told_eat, told_word, told_own, joined_word, told_name, told_name_of, is_word_same, told_any, told_iterate, told_operand, Refused, refused_then, at_slash, told_refused, Heard, same_rest, same_pattern, same_quasi}
+use Rattle.parse_source_laws.proofs.Beside.{lm, on, Ceiling, kinded, regexp, reread, Plain, Beside, Joined, Told, agree1, agree2, at_same, lo_same, span_same, joined_to, joined_by, joined_at, joined_other, joined2, has_same, first_same, hi_as, kind_as, text_as, content_as, told_ok, never, told_then, told_if, told_at, told_pure, told_eat, told_word, told_own, joined_word, told_name, told_name_of, is_word_same, told_any, told_iterate, told_operand, Refused, refused_then, at_slash, told_refused, Heard, same_rest, same_pattern, same_quasi}
 
 module _ {S : Type 0} {m : Stream S} {Live : S → Type 0} {modular : Bool} (w : Orderly m Live modular) {il : Inner Input} {im : Inner S} (told : Heard m Live modular il im) where
   literal_same : (k : Ceiling) (s : State S) (s' : State Input) → Joined m Live k s s' → literal (kind (input lm s')) (content (input lm s')) (first lm il s') ≡ literal (kind (input m s)) (content (input m s)) (first m im s)
@@ -53,7 +54,7 @@ module _ {S : Type 0} {m : Stream S} {Live : S → Type 0} {modular : Bool} (w :
 
   pub element_step_told : (k : Ceiling) (c : Code) (ce : c.context.module_ ≡ modular) (holes : Bool) (close : ℕ) (shut : Plain close) (xs : Elements) (s : State S) (s' : State Input) (sh : Beside m Live k s s') → Told m Live k (element_step lm il c holes close xs s') (element_step m im c holes close xs s)
   unfolding element_step
-  element_step_told k c ce holes close shut xs s s' sh = told_at w k close shut s s' sh _ _ _ _ (λ j1. told_ok w k _ _ (past m s) (past lm s') j1.after refl) (told_if w k _ _ (agree1 w (λ z. holes && at lm comma_kind (on [] 0 z)) (λ p q l v. refl) (λ p q l v. refl) (λ p l v. refl) k s s' sh) _ _ _ _ (λ y2. told_ok w k _ _ (past m s) (past lm s') (joined_at w comma_kind (refl, refl, refl, refl) k s s' sh (and_right (holes) (at lm comma_kind s') y2)).after refl) (λ _. told_then w k _ _ _ _ (element_by_told k c ce s s' sh) (λ e0 e1 e1' e1h. after_element_told k close shut (xs.items ++ e0 ∷ []) e1 e1' e1h)))
+  element_step_told k c ce holes close shut xs s s' sh = told_at w k close shut s s' sh _ _ _ _ (λ j1. told_ok w k _ _ (past m s) (past lm s') j1.after refl) (told_if w k _ _ (agree1 w (λ z. holes && at lm comma_kind (on [] 0 z)) (λ p q l v. refl) (λ p q l v. refl) (λ p l v. refl) k s s' sh) _ _ _ _ (λ y2. told_ok w k _ _ (past m s) (past lm s') (joined_at w comma_kind (refl, refl, refl, refl) k s s' sh (and_second (holes) (at lm comma_kind s') y2)).after refl) (λ _. told_then w k _ _ _ _ (element_by_told k c ce s s' sh) (λ e0 e1 e1' e1h. after_element_told k close shut (xs.items ++ e0 ∷ []) e1 e1' e1h)))
 
   pub elements_by_told : (k : Ceiling) (c : Code) (ce : c.context.module_ ≡ modular) (holes : Bool) (close : ℕ) (shut : Plain close) (s : State S) (s' : State Input) (sh : Beside m Live k s s') → Told m Live k (elements_by lm il c holes close s') (elements_by m im c holes close s)
   unfolding elements_by
@@ -97,7 +98,7 @@ module _ {S : Type 0} {m : Stream S} {Live : S → Type 0} {modular : Bool} (w :
 
   pub parameter_step_told : (k : Ceiling) (c : Code) (ce : c.context.module_ ≡ modular) (ps : List Tree) (s : State S) (s' : State Input) (sh : Beside m Live k s s') → Told m Live k (parameter_step lm il c ps s') (parameter_step m im c ps s)
   unfolding parameter_step
-  parameter_step_told k c ce ps s s' sh = told_at w k right_paren_kind (refl, refl, refl, refl) s s' sh _ _ _ _ (λ j1. told_ok w k _ _ (past m s) (past lm s') j1.after refl) (told_then w k _ _ _ _ (parameter_by_told k c ce s s' sh) (λ p0 p1 p1' p1h. told_if w k _ _ (ap₂ (λ (a b : Bool). a && not b) (at_same w comma_kind (refl, refl, refl, refl) k p1 p1' p1h) (same_rest m im il p0)) _ _ _ _ (λ y2. told_ok w k _ _ (past m p1) (past lm p1') (joined_at w comma_kind (refl, refl, refl, refl) k p1 p1' p1h (and_left (at lm comma_kind p1') (not (is_rest_param lm il p0)) y2)).after refl) (λ _. told_eat w k right_paren_kind (refl, refl, refl, refl) p1 p1' p1h _ _ (λ j3. told_ok w k _ _ (past m p1) (past lm p1') j3.after refl))))
+  parameter_step_told k c ce ps s s' sh = told_at w k right_paren_kind (refl, refl, refl, refl) s s' sh _ _ _ _ (λ j1. told_ok w k _ _ (past m s) (past lm s') j1.after refl) (told_then w k _ _ _ _ (parameter_by_told k c ce s s' sh) (λ p0 p1 p1' p1h. told_if w k _ _ (ap₂ (λ (a b : Bool). a && not b) (at_same w comma_kind (refl, refl, refl, refl) k p1 p1' p1h) (same_rest m im il p0)) _ _ _ _ (λ y2. told_ok w k _ _ (past m p1) (past lm p1') (joined_at w comma_kind (refl, refl, refl, refl) k p1 p1' p1h (and_first (at lm comma_kind p1') (not (is_rest_param lm il p0)) y2)).after refl) (λ _. told_eat w k right_paren_kind (refl, refl, refl, refl) p1 p1' p1h _ _ (λ j3. told_ok w k _ _ (past m p1) (past lm p1') j3.after refl))))
 
   pub parameters_by_told : (k : Ceiling) (c : Code) (ce : c.context.module_ ≡ modular) (s : State S) (s' : State Input) (sh : Beside m Live k s s') → Told m Live k (parameters_by lm il c s') (parameters_by m im c s)
   unfolding parameters_by
@@ -133,7 +134,7 @@ module _ {S : Type 0} {m : Stream S} {Live : S → Type 0} {modular : Bool} (w :
 
   pub prop_by_told : (k : Ceiling) (c : Code) (ce : c.context.module_ ≡ modular) (s : State S) (s' : State Input) (sh : Beside m Live k s s') → Told m Live k (prop_by lm il c s') (prop_by m im c s)
   unfolding prop_by
-  prop_by_told k c ce s s' sh = told_at w k dot_dot_dot_kind (refl, refl, refl, refl) s s' sh _ _ _ _ (λ j1. told_then w k _ _ _ _ (told.expr k (with_in c) ce assignment_level (past m s) (past lm s') j1.after) (λ e0 e1 e1' e1h. told_ok w k _ _ e1 e1' e1h (ap (λ (z : Span). spread_element z e0) (span_same w k k s e1 s' e1' sh e1h)))) (told_at w k mul_kind (refl, refl, refl, refl) s s' sh _ _ _ _ (λ j2. subst (λ (z : ℕ). Told m Live k (method_prop_by lm il c (lo (input lm s')) true false (past lm s')) (method_prop_by m im c z true false (past m s))) (ap (λ (z : ℕ). z) (lo_same w k s s' sh)) (method_prop_by_told k c ce (lo (input lm s')) true false (past m s) (past lm s') j2.after)) (told_if w k _ _ (agree2 w (λ z. is_async_head lm il (on [] 0 z)) (λ p q l v. refl) (λ p q l v. refl) (λ n p q l v. refl) (λ n p q l v. refl) (λ n p l v. refl) k s s' sh) _ _ _ _ (λ y3. told_then w k _ _ _ _ (star_told k (past m s) (past lm s') (joined_at w async_kind (refl, refl, refl, refl) k s s' sh (and_left _ _ y3)).after) (λ g0 g1 g1' g1h. subst (λ (z : ℕ). Told m Live k (method_prop_by lm il c (lo (input lm s')) g0 true g1') (method_prop_by m im c z g0 true g1)) (ap (λ (z : ℕ). z) (lo_same w k s s' sh)) (method_prop_by_told k c ce (lo (input lm s')) g0 true g1 g1' g1h))) (λ _. told_if w k _ _ (agree2 w (λ z. is_accessor lm il get_kind (on [] 0 z)) (λ p q l v. refl) (λ p q l v. refl) (λ n p q l v. refl) (λ n p q l v. refl) (λ n p l v. refl) k s s' sh) _ _ _ _ (λ y4. getter_by_told k c ce s s' (joined_at w get_kind (refl, refl, refl, refl) k s s' sh (and_left _ _ y4))) (λ _. told_if w k _ _ (agree2 w (λ z. is_accessor lm il set_kind (on [] 0 z)) (λ p q l v. refl) (λ p q l v. refl) (λ n p q l v. refl) (λ n p q l v. refl) (λ n p l v. refl) k s s' sh) _ _ _ _ (λ y5. setter_by_told k c ce s s' (joined_at w set_kind (refl, refl, refl, refl) k s s' sh (and_left _ _ y5))) (λ _. told_then w k _ _ _ _ (key_by_told k c ce s s' sh) (λ k0 k1 k1' k1h. prop_rest_told k c ce s s' sh k0 k1 k1' k1h))))))
+  prop_by_told k c ce s s' sh = told_at w k dot_dot_dot_kind (refl, refl, refl, refl) s s' sh _ _ _ _ (λ j1. told_then w k _ _ _ _ (told.expr k (with_in c) ce assignment_level (past m s) (past lm s') j1.after) (λ e0 e1 e1' e1h. told_ok w k _ _ e1 e1' e1h (ap (λ (z : Span). spread_element z e0) (span_same w k k s e1 s' e1' sh e1h)))) (told_at w k mul_kind (refl, refl, refl, refl) s s' sh _ _ _ _ (λ j2. subst (λ (z : ℕ). Told m Live k (method_prop_by lm il c (lo (input lm s')) true false (past lm s')) (method_prop_by m im c z true false (past m s))) (ap (λ (z : ℕ). z) (lo_same w k s s' sh)) (method_prop_by_told k c ce (lo (input lm s')) true false (past m s) (past lm s') j2.after)) (told_if w k _ _ (agree2 w (λ z. is_async_head lm il (on [] 0 z)) (λ p q l v. refl) (λ p q l v. refl) (λ n p q l v. refl) (λ n p q l v. refl) (λ n p l v. refl) k s s' sh) _ _ _ _ (λ y3. told_then w k _ _ _ _ (star_told k (past m s) (past lm s') (joined_at w async_kind (refl, refl, refl, refl) k s s' sh (and_first _ _ y3)).after) (λ g0 g1 g1' g1h. subst (λ (z : ℕ). Told m Live k (method_prop_by lm il c (lo (input lm s')) g0 true g1') (method_prop_by m im c z g0 true g1)) (ap (λ (z : ℕ). z) (lo_same w k s s' sh)) (method_prop_by_told k c ce (lo (input lm s')) g0 true g1 g1' g1h))) (λ _. told_if w k _ _ (agree2 w (λ z. is_accessor lm il get_kind (on [] 0 z)) (λ p q l v. refl) (λ p q l v. refl) (λ n p q l v. refl) (λ n p q l v. refl) (λ n p l v. refl) k s s' sh) _ _ _ _ (λ y4. getter_by_told k c ce s s' (joined_at w get_kind (refl, refl, refl, refl) k s s' sh (and_first _ _ y4))) (λ _. told_if w k _ _ (agree2 w (λ z. is_accessor lm il set_kind (on [] 0 z)) (λ p q l v. refl) (λ p q l v. refl) (λ n p q l v. refl) (λ n p q l v. refl) (λ n p l v. refl) k s s' sh) _ _ _ _ (λ y5. setter_by_told k c ce s s' (joined_at w set_kind (refl, refl, refl, refl) k s s' sh (and_first _ _ y5))) (λ _. told_then w k _ _ _ _ (key_by_told k c ce s s' sh) (λ k0 k1 k1' k1h. prop_rest_told k c ce s s' sh k0 k1 k1' k1h))))))
 
   pub prop_step_told : (k : Ceiling) (c : Code) (ce : c.context.module_ ≡ modular) (xs : Elements) (s : State S) (s' : State Input) (sh : Beside m Live k s s') → Told m Live k (prop_step lm il c xs s') (prop_step m im c xs s)
   unfolding prop_step
@@ -178,7 +179,7 @@ module _ {S : Type 0} {m : Stream S} {Live : S → Type 0} {modular : Bool} (w :
   heads_same k l xs s s' h = ap₂ (λ (a b : Bool). a && b) (agree1 w (λ z. arrows_at lm il l (on [] 0 z)) (λ p q l v. refl) (λ p q l v. refl) (λ p l v. refl) k s s' h) (ap (λ (z : Result (List Tree) Fault). is_read z) (params_same s'.commas s.commas (sym h.commas) xs))
 
   heads_joined : (k : Ceiling) (l : ℕ) (xs : Elements) (s : State S) (s' : State Input) → Beside m Live k s s' → heads_params lm il l xs s' ≡ true → Joined m Live k s s'
-  heads_joined k l xs s s' h y = joined_at w arrow_kind (refl, refl, refl, refl) k s s' h (and_left (at lm arrow_kind s') (not (brk (input lm s'))) (and_left (arrows lm il s') (nat_le l assignment_level) (and_left (arrows_at lm il l s') (is_read (params_of lm il s'.commas xs)) y)))
+  heads_joined k l xs s s' h y = joined_at w arrow_kind (refl, refl, refl, refl) k s s' h (and_first (at lm arrow_kind s') (not (brk (input lm s'))) (and_first (arrows lm il s') (nat_le l assignment_level) (and_first (arrows_at lm il l s') (is_read (params_of lm il s'.commas xs)) y)))
 
   parens_told : (k : Ceiling) (oc : Ceiling) (open_ : State S) (open' : State Input) → Beside m Live oc open_ open' → (startc : Ceiling) (start : State S) (start' : State Input) → Beside m Live startc start start' → (n : ℕ) (t : Option (List Tree)) (s : State S) (s' : State Input) → Beside m Live k s s'
       → Told m Live {A = Tree} k (elim t [ None ↦ unexpected lm s' | Some [] ↦ unexpected lm s' | Some (e ∷ es) ↦ Ok (paren_expr (spanned lm start' s') (joined (e ∷ es) (span (lo (input lm open')) n)), s') ])
@@ -199,7 +200,7 @@ module _ {S : Type 0} {m : Stream S} {Live : S → Type 0} {modular : Bool} (w :
 
   pub ident_end_told : (k : Ceiling) (c : Code) (ce : c.context.module_ ≡ modular) (l : ℕ) (startc : Ceiling) (start : State S) (start' : State Input) (startj : Joined m Live startc start start') (n : List ℕ) (s : State S) (s' : State Input) (sh : Beside m Live k s s') → Told m Live k (ident_end lm il c l start' n s') (ident_end m im c l start n s)
   unfolding ident_end
-  ident_end_told k c ce l startc start start' startj n s s' sh = told_if w k _ _ (agree1 w (λ z. arrows_at lm il l (on [] 0 z)) (λ p q l v. refl) (λ p q l v. refl) (λ p l v. refl) k s s' sh) _ _ _ _ (λ y1. subst (λ (z : List Tree). Told m Live k (arrow_by lm il c start' false (binding_ident (first lm il start') (ident (first lm il start') n) ∷ []) s') (arrow_by m im c start false z s)) (ap (λ (z : Span). (binding_ident z (ident z n) ∷ [])) (first_same w startc start start' startj)) (arrow_by_told k c ce startc start start' startj.base false (binding_ident (first lm il start') (ident (first lm il start') n) ∷ []) s s' (joined_at w arrow_kind (refl, refl, refl, refl) k s s' sh (and_left _ _ (and_left _ _ y1))))) (λ _. told_ok w k _ _ s s' sh (ap (λ (z : Span). ident z n) (first_same w startc start start' startj)))
+  ident_end_told k c ce l startc start start' startj n s s' sh = told_if w k _ _ (agree1 w (λ z. arrows_at lm il l (on [] 0 z)) (λ p q l v. refl) (λ p q l v. refl) (λ p l v. refl) k s s' sh) _ _ _ _ (λ y1. subst (λ (z : List Tree). Told m Live k (arrow_by lm il c start' false (binding_ident (first lm il start') (ident (first lm il start') n) ∷ []) s') (arrow_by m im c start false z s)) (ap (λ (z : Span). (binding_ident z (ident z n) ∷ [])) (first_same w startc start start' startj)) (arrow_by_told k c ce startc start start' startj.base false (binding_ident (first lm il start') (ident (first lm il start') n) ∷ []) s s' (joined_at w arrow_kind (refl, refl, refl, refl) k s s' sh (and_first _ _ (and_first _ _ y1))))) (λ _. told_ok w k _ _ s s' sh (ap (λ (z : Span). ident z n) (first_same w startc start start' startj)))
 
   pub arguments_by_told : (k : Ceiling) (c : Code) (ce : c.context.module_ ≡ modular) (s : State S) (s' : State Input) (sh : Beside m Live k s s') → Told m Live k (arguments_by lm il c s') (arguments_by m im c s)
   unfolding arguments_by
@@ -209,7 +210,7 @@ module _ {S : Type 0} {m : Stream S} {Live : S → Type 0} {modular : Bool} (w :
   unfolding async_group
   async_group_told k c ce l startc start start' startj s s' sj = told_then w k _ _ _ _ (elements_by_told k (with_in c) ce false right_paren_kind (refl, refl, refl, refl) (past m s) (past lm s') sj.after) (λ xs0 xs1 xs1' xs1h.
       told_if w k _ _ (ap₂ (λ (a b : Bool). a && not b) (heads_same k l xs0 xs1 xs1' xs1h) (has_same w break_of (λ p l v. refl) k s s' sj)) _ _ _ _
-      (λ y. told_pure w _ _ k _ _ (params_same xs1'.commas xs1.commas (sym xs1h.commas) xs0) _ _ (λ ps. arrow_by_told k c ce startc start start' startj.base true ps xs1 xs1' (heads_joined k l xs0 xs1 xs1' xs1h (and_left (heads_params lm il l xs0 xs1') (not (brk (input lm s'))) y))))
+      (λ y. told_pure w _ _ k _ _ (params_same xs1'.commas xs1.commas (sym xs1h.commas) xs0) _ _ (λ ps. arrow_by_told k c ce startc start start' startj.base true ps xs1 xs1' (heads_joined k l xs0 xs1 xs1' xs1h (and_first (heads_params lm il l xs0 xs1') (not (brk (input lm s'))) y))))
       (λ _. told_ok w k _ _ xs1 xs1' xs1h (ap (λ (z : Span). call_expr z (ident (first lm il start') (text (input lm start'))) (pack xs0.items)) (span_same w startc k start xs1 start' xs1' startj.base xs1h)
       ∙ (ap (λ (z : Span). call_expr (spanned m start xs1) (ident z (text (input lm start'))) (pack xs0.items)) (first_same w startc start start' startj) ∙ ap (λ (z : List ℕ). call_expr (spanned m start xs1) (ident (first m im start) z) (pack xs0.items)) (text_as w startc start start' startj)))))
 
@@ -241,7 +242,7 @@ module _ {S : Type 0} {m : Stream S} {Live : S → Type 0} {modular : Bool} (w :
   async_by_told k c ce l s s' sj = told_if w k _ _ (agree1 w (λ z. (at lm function_kind (on [] 0 z) && not (brk (input lm (on [] 0 z)))) && not (barred c.context (input lm (on [] 0 z)))) (λ p q l v. refl) (λ p q l v. refl) (λ p l v. refl) k (past m s) (past lm s') sj.after) _ _ _ _ (λ _. function_expr_by_told k c ce k s s' sj.base true (past m s) (past lm s') sj.after)
       (λ _. told_if w k _ _ (agree2 w (λ z. is_async_param lm il c l (on [] 0 z)) (λ p q l v. refl) (λ p q l v. refl) (λ n p q l v. refl) (λ n p q l v. refl) (λ n p l v. refl) k (past m s) (past lm s') sj.after) _ _ _ _ (λ y. async_name k c ce l s s' sj.base (past m s) (past lm s') sj.after y)
       (λ _. told_if w k _ _ (agree1 w (λ z. at lm left_paren_kind (on [] 0 z) && not (brk (input lm (on [] 0 z)))) (λ p q l v. refl) (λ p q l v. refl) (λ p l v. refl) k (past m s) (past lm s') sj.after) _ _ _ _
-      (λ y. async_group_told k c ce l k s s' sj (past m s) (past lm s') (joined_at w left_paren_kind (refl, refl, refl, refl) k (past m s) (past lm s') sj.after (and_left (at lm left_paren_kind (past lm s')) (not (brk (input lm (past lm s')))) y)))
+      (λ y. async_group_told k c ce l k s s' sj (past m s) (past lm s') (joined_at w left_paren_kind (refl, refl, refl, refl) k (past m s) (past lm s') sj.after (and_first (at lm left_paren_kind (past lm s')) (not (brk (input lm (past lm s')))) y)))
       (λ _. subst (λ (z : List ℕ). Told m Live k (ident_end lm il c l s' (text (input lm s')) (past lm s')) (ident_end m im c l s z (past m s))) (text_as w k s s' sj) (ident_end_told k c ce l k s s' sj (text (input lm s')) (past m s) (past lm s') sj.after))))
 
   pub class_expr_by_told : (k : Ceiling) (c : Code) (ce : c.context.module_ ≡ modular) (s : State S) (s' : State Input) (sh : Beside m Live k s s') → Told m Live k (class_expr_by lm il c s') (class_expr_by m im c s)
@@ -250,7 +251,7 @@ module _ {S : Type 0} {m : Stream S} {Live : S → Type 0} {modular : Bool} (w :
 
   pub new_end_told : (k : Ceiling) (c : Code) (ce : c.context.module_ ≡ modular) (startc : Ceiling) (start : State S) (start' : State Input) (starth : Beside m Live startc start start') (f : Tree) (s : State S) (s' : State Input) (sh : Beside m Live k s s') → Told m Live k (new_end lm il c start' f s') (new_end m im c start f s)
   unfolding new_end
-  new_end_told k c ce startc start start' starth f s s' sh = told_if w k _ _ (agree1 w (λ z. at lm left_paren_kind (on [] 0 z) && nat_le member_level (level f)) (λ p q l v. refl) (λ p q l v. refl) (λ p l v. refl) k s s' sh) _ _ _ _ (λ y1. told_then w k _ _ _ _ (arguments_by_told k c ce (past m s) (past lm s') (joined_at w left_paren_kind (refl, refl, refl, refl) k s s' sh (and_left (at lm left_paren_kind s') (nat_le member_level (level f)) y1)).after) (λ xs0 xs1 xs1' xs1h. told_ok w k _ _ xs1 xs1' xs1h (ap (λ (z : Span). new_expr z f (list (pack xs0))) (span_same w startc k start xs1 start' xs1' starth xs1h)))) (λ _. told_if w k _ _ (agree2 w (λ z. (nat_le member_level (level f) || (level f == new_level)) && nat_lt (goes_expr c other_end (input lm (on [] 0 z))) call_level) (λ p q l v. refl) (λ p q l v. refl) (λ n p q l v. refl) (λ n p q l v. refl) (λ n p l v. refl) k s s' sh) _ _ _ _ (λ y2. told_ok w k _ _ s s' sh (ap (λ (z : Span). new_expr z f absent) (span_same w startc k start s start' s' starth sh))) (λ _. never w k _ _))
+  new_end_told k c ce startc start start' starth f s s' sh = told_if w k _ _ (agree1 w (λ z. at lm left_paren_kind (on [] 0 z) && nat_le member_level (level f)) (λ p q l v. refl) (λ p q l v. refl) (λ p l v. refl) k s s' sh) _ _ _ _ (λ y1. told_then w k _ _ _ _ (arguments_by_told k c ce (past m s) (past lm s') (joined_at w left_paren_kind (refl, refl, refl, refl) k s s' sh (and_first (at lm left_paren_kind s') (nat_le member_level (level f)) y1)).after) (λ xs0 xs1 xs1' xs1h. told_ok w k _ _ xs1 xs1' xs1h (ap (λ (z : Span). new_expr z f (list (pack xs0))) (span_same w startc k start xs1 start' xs1' starth xs1h)))) (λ _. told_if w k _ _ (agree2 w (λ z. (nat_le member_level (level f) || (level f == new_level)) && nat_lt (goes_expr c other_end (input lm (on [] 0 z))) call_level) (λ p q l v. refl) (λ p q l v. refl) (λ n p q l v. refl) (λ n p q l v. refl) (λ n p l v. refl) k s s' sh) _ _ _ _ (λ y2. told_ok w k _ _ s s' sh (ap (λ (z : Span). new_expr z f absent) (span_same w startc k start s start' s' starth sh))) (λ _. never w k _ _))
 
   pub callee_by_told : (k : Ceiling) (c : Code) (ce : c.context.module_ ≡ modular) (s : State S) (s' : State Input) (sh : Beside m Live k s s') → Told m Live k (callee_by lm il c s') (callee_by m im c s)
   unfolding callee_by
@@ -338,7 +339,7 @@ module _ {S : Type 0} {m : Stream S} {Live : S → Type 0} {modular : Bool} (w :
 
   pub step_by_told : (k : Ceiling) (c : Code) (ce : c.context.module_ ≡ modular) (startc : Ceiling) (start : State S) (start' : State Input) (starth : Beside m Live startc start start') (t : Tree) (s : State S) (s' : State Input) (sj : Joined m Live k s s') → Told m Live k (step_by lm il c start' t s') (step_by m im c start t s)
   unfolding step_by
-  step_by_told k c ce startc start start' starth t s s' sj = told_at w k comma_kind (refl, refl, refl, refl) s s' sj.base _ _ _ _ (λ j1. told_then w k _ _ _ _ (told.expr k c ce assignment_level (past m s) (past lm s') j1.after) (λ e0 e1 e1' e1h. told_ok w k _ _ e1 e1' e1h (ap (λ (z : Span). extended t e0 z) (span_same w startc k start e1 start' e1' starth e1h)))) (told_if w k _ _ (has_same w (λ z. is_assign_op (kind (input lm (on [] 0 z)))) (λ p l v. refl) k s s' sj) _ _ _ _ (λ y2. assign_by_told k c ce startc start start' starth t s s' (joined_by w (is_assign_op) refl refl k s s' sj.base y2)) (λ _. told_if w k _ _ (agree2 w (λ z. at lm question_mark_kind (on [] 0 z) && (kind2 (input lm (on [] 0 z)) == dot_kind)) (λ p q l v. refl) (λ p q l v. refl) (λ n p q l v. refl) (λ n p q l v. refl) (λ n p l v. refl) k s s' sj.base) _ _ _ _ (λ y3. told_if w k (nat_le call_level (level t)) (nat_le call_level (level t)) refl _ _ _ _ (λ _. chain_by_told k c ce startc start start' starth t (past m (past m s)) (past lm (past lm s')) (joined_at w dot_kind (refl, refl, refl, refl) k (past m s) (past lm s') sj.after (and_right (at lm question_mark_kind s') (kind2 (input lm s') == dot_kind) y3)).after) (λ _. never w k _ _)) (λ _. told_at w k question_mark_kind (refl, refl, refl, refl) s s' sj.base _ _ _ _ (λ j4. told_if w k (nat_le coalesce_level (level t)) (nat_le coalesce_level (level t)) refl _ _ _ _ (λ _. cond_by_told k c ce startc start start' starth t s s' j4) (λ _. never w k _ _)) (told_if w k _ _ (has_same w (λ z. operates c (kind (input lm (on [] 0 z)))) (λ p l v. refl) k s s' sj) _ _ _ _ (λ y5. told_if w k _ _ (has_same w (λ z. fits_left (kind (input lm (on [] 0 z))) t) (λ p l v. refl) k s s' (joined_by w (operates c) refl refl k s s' sj.base y5)) _ _ _ _ (λ y6. binary_by_told k c ce startc start start' starth t s s' (joined_by w (operates c) refl refl k s s' sj.base y5)) (λ _. never w k _ _)) (λ _. told_if w k _ _ (has_same w (λ z. between plus_plus_kind minus_minus_kind (kind (input lm (on [] 0 z)))) (λ p l v. refl) k s s' sj) _ _ _ _ (λ y7. told_if w k _ _ (has_same w (λ z. nat_le new_level (level t) && not (brk (input lm (on [] 0 z)))) (λ p l v. refl) k s s' (joined_by w (between plus_plus_kind minus_minus_kind) refl refl k s s' sj.base y7)) _ _ _ _ (λ y8. told_ok w k _ _ (past m s) (past lm s') (joined_by w (between plus_plus_kind minus_minus_kind) refl refl k s s' sj.base y7).after (ap (λ (z : Span). update_expr z (kind (input lm s')) false t) (span_same w startc k start (past m s) start' (past lm s') starth (joined_by w (between plus_plus_kind minus_minus_kind) refl refl k s s' sj.base y7).after) ∙ (ap (λ (z : ℕ). update_expr (spanned m start (past m s)) z false t) (kind_as w k s s' (joined_by w (between plus_plus_kind minus_minus_kind) refl refl k s s' sj.base y7))))) (λ _. never w k _ _)) (λ _. told_if w k (not (nat_le call_level (level t))) (not (nat_le call_level (level t))) refl _ _ _ _ (λ _. never w k _ _) (λ _. told_at w k left_paren_kind (refl, refl, refl, refl) s s' sj.base _ _ _ _ (λ j9. call_by_told k c ce startc start start' starth t s s' j9) (told_at w k left_bracket_kind (refl, refl, refl, refl) s s' sj.base _ _ _ _ (λ j10. index_by_told k c ce startc start start' starth t s s' j10) (told_at w k dot_kind (refl, refl, refl, refl) s s' sj.base _ _ _ _ (λ j11. member_by_told k c ce startc start start' starth t s s' j11) (told_if w k _ _ (has_same w (λ z. at lm back_quote_kind (on [] 0 z) && not (is_chain t)) (λ p l v. refl) k s s' sj) _ _ _ _ (λ y12. told_then w k _ _ _ _ (template_by_told k c ce true s s' (joined_at w back_quote_kind (refl, refl, refl, refl) k s s' sj.base (and_left (at lm back_quote_kind s') (not (is_chain t)) y12))) (λ q0 q1 q1' q1h. told_ok w k _ _ q1 q1' q1h (ap (λ (z : Span). tagged_tpl z t q0) (span_same w startc k start q1 start' q1' starth q1h)))) (λ _. never w k _ _)))))))))))
+  step_by_told k c ce startc start start' starth t s s' sj = told_at w k comma_kind (refl, refl, refl, refl) s s' sj.base _ _ _ _ (λ j1. told_then w k _ _ _ _ (told.expr k c ce assignment_level (past m s) (past lm s') j1.after) (λ e0 e1 e1' e1h. told_ok w k _ _ e1 e1' e1h (ap (λ (z : Span). extended t e0 z) (span_same w startc k start e1 start' e1' starth e1h)))) (told_if w k _ _ (has_same w (λ z. is_assign_op (kind (input lm (on [] 0 z)))) (λ p l v. refl) k s s' sj) _ _ _ _ (λ y2. assign_by_told k c ce startc start start' starth t s s' (joined_by w (is_assign_op) refl refl k s s' sj.base y2)) (λ _. told_if w k _ _ (agree2 w (λ z. at lm question_mark_kind (on [] 0 z) && (kind2 (input lm (on [] 0 z)) == dot_kind)) (λ p q l v. refl) (λ p q l v. refl) (λ n p q l v. refl) (λ n p q l v. refl) (λ n p l v. refl) k s s' sj.base) _ _ _ _ (λ y3. told_if w k (nat_le call_level (level t)) (nat_le call_level (level t)) refl _ _ _ _ (λ _. chain_by_told k c ce startc start start' starth t (past m (past m s)) (past lm (past lm s')) (joined_at w dot_kind (refl, refl, refl, refl) k (past m s) (past lm s') sj.after (and_second (at lm question_mark_kind s') (kind2 (input lm s') == dot_kind) y3)).after) (λ _. never w k _ _)) (λ _. told_at w k question_mark_kind (refl, refl, refl, refl) s s' sj.base _ _ _ _ (λ j4. told_if w k (nat_le coalesce_level (level t)) (nat_le coalesce_level (level t)) refl _ _ _ _ (λ _. cond_by_told k c ce startc start start' starth t s s' j4) (λ _. never w k _ _)) (told_if w k _ _ (has_same w (λ z. operates c (kind (input lm (on [] 0 z)))) (λ p l v. refl) k s s' sj) _ _ _ _ (λ y5. told_if w k _ _ (has_same w (λ z. fits_left (kind (input lm (on [] 0 z))) t) (λ p l v. refl) k s s' (joined_by w (operates c) refl refl k s s' sj.base y5)) _ _ _ _ (λ y6. binary_by_told k c ce startc start start' starth t s s' (joined_by w (operates c) refl refl k s s' sj.base y5)) (λ _. never w k _ _)) (λ _. told_if w k _ _ (has_same w (λ z. between plus_plus_kind minus_minus_kind (kind (input lm (on [] 0 z)))) (λ p l v. refl) k s s' sj) _ _ _ _ (λ y7. told_if w k _ _ (has_same w (λ z. nat_le new_level (level t) && not (brk (input lm (on [] 0 z)))) (λ p l v. refl) k s s' (joined_by w (between plus_plus_kind minus_minus_kind) refl refl k s s' sj.base y7)) _ _ _ _ (λ y8. told_ok w k _ _ (past m s) (past lm s') (joined_by w (between plus_plus_kind minus_minus_kind) refl refl k s s' sj.base y7).after (ap (λ (z : Span). update_expr z (kind (input lm s')) false t) (span_same w startc k start (past m s) start' (past lm s') starth (joined_by w (between plus_plus_kind minus_minus_kind) refl refl k s s' sj.base y7).after) ∙ (ap (λ (z : ℕ). update_expr (spanned m start (past m s)) z false t) (kind_as w k s s' (joined_by w (between plus_plus_kind minus_minus_kind) refl refl k s s' sj.base y7))))) (λ _. never w k _ _)) (λ _. told_if w k (not (nat_le call_level (level t))) (not (nat_le call_level (level t))) refl _ _ _ _ (λ _. never w k _ _) (λ _. told_at w k left_paren_kind (refl, refl, refl, refl) s s' sj.base _ _ _ _ (λ j9. call_by_told k c ce startc start start' starth t s s' j9) (told_at w k left_bracket_kind (refl, refl, refl, refl) s s' sj.base _ _ _ _ (λ j10. index_by_told k c ce startc start start' starth t s s' j10) (told_at w k dot_kind (refl, refl, refl, refl) s s' sj.base _ _ _ _ (λ j11. member_by_told k c ce startc start start' starth t s s' j11) (told_if w k _ _ (has_same w (λ z. at lm back_quote_kind (on [] 0 z) && not (is_chain t)) (λ p l v. refl) k s s' sj) _ _ _ _ (λ y12. told_then w k _ _ _ _ (template_by_told k c ce true s s' (joined_at w back_quote_kind (refl, refl, refl, refl) k s s' sj.base (and_first (at lm back_quote_kind s') (not (is_chain t)) y12))) (λ q0 q1 q1' q1h. told_ok w k _ _ q1 q1' q1h (ap (λ (z : Span). tagged_tpl z t q0) (span_same w startc k start q1 start' q1' starth q1h)))) (λ _. never w k _ _)))))))))))
 
   -- Nothing goes on with a regular expression, or at the end.
   step_none : (c : Code) (start : State Input) (t : Tree) (o : List ℕ) (n : ℕ) (p : PlacedToken) (l : List PlacedToken) → Refused (step_by lm il c start t (on o n (regexp p ∷ l)))
@@ -415,7 +416,7 @@ module _ {S : Type 0} {m : Stream S} {Live : S → Type 0} {modular : Bool} (w :
 
   pub private_in_told : (k : Ceiling) (c : Code) (ce : c.context.module_ ≡ modular) (l : ℕ) (s : State S) (s' : State Input) (sh : Beside m Live k s s') → Told m Live k (private_in lm il c l s') (private_in m im c l s)
   unfolding private_in
-  private_in_told k c ce l s s' sh = told_then w k _ _ _ _ (private_by_told k s s' sh) (λ p0 p1 p1' p1h. told_if w k _ _ (agree1 w (λ z. at lm in_kind (on [] 0 z) && (has_in c && nat_le l (binary_level in_kind))) (λ p q l v. refl) (λ p q l v. refl) (λ p l v. refl) k p1 p1' p1h) _ _ _ _ (λ y1. told_then w k _ _ _ _ (binary_by_told k c ce k s s' sh p0 p1 p1' (joined_at w in_kind (refl, refl, refl, refl) k p1 p1' p1h (and_left (at lm in_kind p1') ((has_in c && nat_le l (binary_level in_kind))) y1))) (λ t0 t1 t1' t1h. loop_by_told k c ce l k s s' sh t0 t1 t1' t1h)) (λ _. never w k _ _))
+  private_in_told k c ce l s s' sh = told_then w k _ _ _ _ (private_by_told k s s' sh) (λ p0 p1 p1' p1h. told_if w k _ _ (agree1 w (λ z. at lm in_kind (on [] 0 z) && (has_in c && nat_le l (binary_level in_kind))) (λ p q l v. refl) (λ p q l v. refl) (λ p l v. refl) k p1 p1' p1h) _ _ _ _ (λ y1. told_then w k _ _ _ _ (binary_by_told k c ce k s s' sh p0 p1 p1' (joined_at w in_kind (refl, refl, refl, refl) k p1 p1' p1h (and_first (at lm in_kind p1') ((has_in c && nat_le l (binary_level in_kind))) y1))) (λ t0 t1 t1' t1h. loop_by_told k c ce l k s s' sh t0 t1 t1' t1h)) (λ _. never w k _ _))
 
   pub expr_from_told : (k : Ceiling) (c : Code) (ce : c.context.module_ ≡ modular) (l : ℕ) (s : State S) (s' : State Input) (sh : Beside m Live k s s') (fresh : at lm regex_kind s' ≡ true → Joined m Live k s s') → Told m Live k (expr_from lm il c l s') (expr_from m im c l s)
   unfolding expr_from

@@ -1,3 +1,4 @@
+pub mod Codes
 pub mod Beside
 pub mod Expressions
 pub mod Statements

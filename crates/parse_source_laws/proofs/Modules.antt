@@ -1,5 +1,6 @@
 -- Scripts and modules (ECMA-262, clause 16): their rules over a source and over the list that it hands out.
 use Rattle.std.proofs.Common.{◌≡◌, ℕ, Bool, true, false, not, ◌&&◌, ◌||◌, ◌==◌, List, [], ◌∷◌, ◌++◌, Option, Some, None, refl, ap, ◌∙◌, subst}
+use Rattle.base_proofs.proofs.Bools.{and_second, and_first}
 use Rattle.base_token.specs.declared.place.Span.{Span}
 use Rattle.base_token.specs.Kinds.{div_kind, div_assign_kind, async_kind, left_brace_kind, right_brace_kind, comma_kind, mul_kind, str_kind, shebang_kind, default_kind, function_kind, with_kind, class_kind, export_kind, import_kind, as_kind, assert_kind, from_kind}
 use Rattle.base_token.specs.Tokens.{Content}
@@ -12,17 +13,17 @@ use Rattle.grammar_spec.specs.Reader.Expressions.{first}
 use Rattle.grammar_spec.specs.Reader.Statements.{Body, starts_async}
 use Rattle.grammar_spec.specs.Reader.Modules.{string_by, export_name_by, local_by, attributes_by, source_by, named_import, named_export_item, specifier_step, specifiers_by, star_import, import_end, import_rest, import_default, import_decl_by, export_default, export_star, export_list, starts_declaration, export_by, starts_import, item_by, program_item, program_step, line_of, program_tree, program_rest, program_by}
 use Rattle.parse_source_laws.specs.Sources.{is_slash, Orderly}
-use Rattle.parse_source_laws.proofs.Beside.{lm, on, Ceiling, kinded, and_left, and_right, Beside, Joined, Told, agree1, agree2, span_same, joined_by, joined_at, first_same, content_as, told_ok, never, told_then, told_if, told_at, told_placed, told_eat, told_word, told_own, told_name, told_any, told_end, told_iterate, told_iterate_in, Keeps, keeps_if, keeps_then, turned_beside, told_operand, Refused, refused_then, at_slash, told_refused, Heard, same_line}
+use Rattle.parse_source_laws.proofs.Beside.{lm, on, Ceiling, kinded, Beside, Joined, Told, agree1, agree2, span_same, joined_by, joined_at, first_same, content_as, told_ok, never, told_then, told_if, told_at, told_placed, told_eat, told_word, told_own, told_name, told_any, told_end, told_iterate, told_iterate_in, Keeps, keeps_if, keeps_then, turned_beside, told_operand, Refused, refused_then, at_slash, told_refused, Heard, same_line}
 use Rattle.parse_source_laws.proofs.Expressions.{literal_by_told, object_by_told, function_expr_by_told, class_expr_by_told}
 
 module _ {S : Type 0} {m : Stream S} {Live : S → Type 0} {modular : Bool} (w : Orderly m Live modular) {il : Inner Input} {im : Inner S} (told : Heard m Live modular il im) where
   -- what stands before a module's attributes
   attributes_joined : (k : Ceiling) (c : Code) (s : State S) (s' : State Input) → Beside m Live k s s' → (c.syntax.import_attributes && (at lm with_kind s' || (at lm assert_kind s' && not (brk (input lm s'))))) ≡ true → Joined m Live k s s'
-  attributes_joined k c s s' h y = joined_by w (λ z. (z == with_kind) || (z == assert_kind)) refl refl k s s' h (less (at lm with_kind s') (at lm assert_kind s') (not (brk (input lm s'))) (and_right c.syntax.import_attributes _ y))
+  attributes_joined k c s s' h y = joined_by w (λ z. (z == with_kind) || (z == assert_kind)) refl refl k s s' h (less (at lm with_kind s') (at lm assert_kind s') (not (brk (input lm s'))) (and_second c.syntax.import_attributes _ y))
     where
       less : (a b d : Bool) → (a || (b && d)) ≡ true → (a || b) ≡ true
       less true b d y = refl
-      less false b d y = and_left b d y
+      less false b d y = and_first b d y
 
   pub string_by_told : (k : Ceiling) (s : State S) (s' : State Input) (sh : Beside m Live k s s') → Told m Live k (string_by lm il s') (string_by m im s)
   unfolding string_by
@@ -82,7 +83,7 @@ module _ {S : Type 0} {m : Stream S} {Live : S → Type 0} {modular : Bool} (w :
 
   pub export_default_told : (k : Ceiling) (c : Code) (ce : c.context.module_ ≡ modular) (startc : Ceiling) (start : State S) (start' : State Input) (starth : Beside m Live startc start start') (s : State S) (s' : State Input) (sh : Beside m Live k s s') → Told m Live k (export_default lm il c start' s') (export_default m im c start s)
   unfolding export_default
-  export_default_told k c ce startc start start' starth s s' sh = told_at w k function_kind (refl, refl, refl, refl) s s' sh _ _ _ _ (λ j1. told_then w k _ _ _ _ (function_expr_by_told w told k c ce k s s' sh false s s' sh) (λ d0 d1 d1' d1h. told_ok w k _ _ d1 d1' d1h (ap (λ (z : Span). export_default_decl z d0) (span_same w startc k start d1 start' d1' starth d1h)))) (told_if w k _ _ (agree2 w (λ z. starts_async lm il (on [] 0 z)) (λ p q l v. refl) (λ p q l v. refl) (λ n p q l v. refl) (λ n p q l v. refl) (λ n p l v. refl) k s s' sh) _ _ _ _ (λ y2. told_then w k _ _ _ _ (function_expr_by_told w told k c ce k s s' sh true (past m s) (past lm s') (joined_at w async_kind (refl, refl, refl, refl) k s s' sh (and_left _ _ y2)).after) (λ d0 d1 d1' d1h. told_ok w k _ _ d1 d1' d1h (ap (λ (z : Span). export_default_decl z d0) (span_same w startc k start d1 start' d1' starth d1h)))) (λ _. told_at w k class_kind (refl, refl, refl, refl) s s' sh _ _ _ _ (λ j3. told_then w k _ _ _ _ (class_expr_by_told w told k c ce s s' sh) (λ d0 d1 d1' d1h. told_ok w k _ _ d1 d1' d1h (ap (λ (z : Span). export_default_decl z d0) (span_same w startc k start d1 start' d1' starth d1h)))) (told_then w k _ _ _ _ (told.expr k c ce assignment_level s s' sh) (λ e0 e1 e1' e1h. told_end w k c _ _ refl e1 e1' e1h _ _ (λ r1 r1' r1h. told_ok w k _ _ r1 r1' r1h (ap (λ (z : Span). export_default_expr z e0) (span_same w startc k start r1 start' r1' starth r1h)))))))
+  export_default_told k c ce startc start start' starth s s' sh = told_at w k function_kind (refl, refl, refl, refl) s s' sh _ _ _ _ (λ j1. told_then w k _ _ _ _ (function_expr_by_told w told k c ce k s s' sh false s s' sh) (λ d0 d1 d1' d1h. told_ok w k _ _ d1 d1' d1h (ap (λ (z : Span). export_default_decl z d0) (span_same w startc k start d1 start' d1' starth d1h)))) (told_if w k _ _ (agree2 w (λ z. starts_async lm il (on [] 0 z)) (λ p q l v. refl) (λ p q l v. refl) (λ n p q l v. refl) (λ n p q l v. refl) (λ n p l v. refl) k s s' sh) _ _ _ _ (λ y2. told_then w k _ _ _ _ (function_expr_by_told w told k c ce k s s' sh true (past m s) (past lm s') (joined_at w async_kind (refl, refl, refl, refl) k s s' sh (and_first _ _ y2)).after) (λ d0 d1 d1' d1h. told_ok w k _ _ d1 d1' d1h (ap (λ (z : Span). export_default_decl z d0) (span_same w startc k start d1 start' d1' starth d1h)))) (λ _. told_at w k class_kind (refl, refl, refl, refl) s s' sh _ _ _ _ (λ j3. told_then w k _ _ _ _ (class_expr_by_told w told k c ce s s' sh) (λ d0 d1 d1' d1h. told_ok w k _ _ d1 d1' d1h (ap (λ (z : Span). export_default_decl z d0) (span_same w startc k start d1 start' d1' starth d1h)))) (told_then w k _ _ _ _ (told.expr k c ce assignment_level s s' sh) (λ e0 e1 e1' e1h. told_end w k c _ _ refl e1 e1' e1h _ _ (λ r1 r1' r1h. told_ok w k _ _ r1 r1' r1h (ap (λ (z : Span). export_default_expr z e0) (span_same w startc k start r1 start' r1' starth r1h)))))))
 
   pub export_star_told : (k : Ceiling) (c : Code) (ce : c.context.module_ ≡ modular) (startc : Ceiling) (start : State S) (start' : State Input) (starth : Beside m Live startc start start') (s : State S) (s' : State Input) (sh : Beside m Live k s s') → Told m Live k (export_star lm il c start' s') (export_star m im c start s)
   unfolding export_star

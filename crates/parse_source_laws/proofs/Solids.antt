@@ -47,9 +47,6 @@ module _ {S : Type 0} {m : Stream S} where
   solid_then (Ok b) f h = h b
   solid_then (Err e) f h = record { so = tt }
 
-  solid_pure : {B : Type 0} (x : Result B Fault) (f : B → Result (Tree × State S) Fault) → ((b : B) → Solid m (f b)) → Solid m (x >>= f)
-  solid_pure x f h = solid_then x f h
-
   solid_pass : (x : Result (Tree × State S) Fault) (f : Tree × State S → Result (Tree × State S) Fault) → Solid m x → ((t : Tree) (s : State S) → Whole t → Solid m (f (t, s))) → Solid m (x >>= f)
   solid_pass (Ok x) f h n = n x.0 x.1 h.so
   solid_pass (Err e) f h n = record { so = tt }
@@ -126,7 +123,7 @@ module _ {S : Type 0} (m : Stream S) (im : Inner S) where
 
   group_end_solid : (c : Code) (l : ℕ) (start open_ : State S) (xs : Elements) (s : State S) → Solid m (group_end m im c l start open_ xs s)
   unfolding group_end
-  group_end_solid c l start open_ xs s = solid_if (heads_params m im l xs s) _ _ (solid_pure _ _ (λ ps. arrow_by_solid c start false ps s)) (solid_if xs.comma _ _ solid_never (by_plain (plain_elements xs.items)))
+  group_end_solid c l start open_ xs s = solid_if (heads_params m im l xs s) _ _ (solid_then _ _ (λ ps. arrow_by_solid c start false ps s)) (solid_if xs.comma _ _ solid_never (by_plain (plain_elements xs.items)))
     where
       by_plain : (t : Option (List Tree)) → Solid m (elim t [ None ↦ unexpected m s | Some [] ↦ unexpected m s | Some (e ∷ es) ↦ Ok (paren_expr (spanned m start s) (joined (e ∷ es) (span (lo (input m open_)) (last_end xs.items))), s) ])
       by_plain None = solid_never

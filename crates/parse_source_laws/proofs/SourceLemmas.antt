@@ -1,6 +1,5 @@
 -- The readers of every depth read of a source what they read of the list that it hands out; so programs and parts are.
 use Rattle.std.proofs.Common.{◌≡◌, ℕ, zero, suc, Bool, true, false, List, [], length, Result, Ok, Err, cond, if◌then◌else◌, refl, sym, ap, ◌∙◌, true≢false, arith}
-use Rattle.base_token.specs.declared.syntax.EsSyntax.{EsSyntax}
 use Rattle.tree_spec.specs.Tree.{Tree}
 use Rattle.grammar_spec.specs.Tokens.Input.{PlacedToken, Input, script_code, module_code}
 use Rattle.grammar_spec.specs.Tokens.Shape.{is_clean}
@@ -13,6 +12,7 @@ use Rattle.parse_source_laws.proofs.Beside.{lm, Ceiling, Beside, Told, Heard}
 use Rattle.parse_source_laws.proofs.Expressions.{expr_by_told, expr_by_refused, key_by_told, parameter_by_told, prop_by_told}
 use Rattle.parse_source_laws.proofs.Statements.{pattern_prop_told, pat_by_told, stmt_from_told, stmt_from_refused, body_by_told, class_tail_by_told}
 use Rattle.parse_source_laws.proofs.Modules.{item_from_told, program_by_told}
+use Rattle.parse_source_laws.proofs.Codes.{code_of}
 
 module _ {S : Type 0} {m : Stream S} {Live : S → Type 0} {modular : Bool} (w : Orderly m Live modular) where
   pub readers_heard : (d : ℕ) → Heard m Live modular (readers lm d) (readers m d)
@@ -58,11 +58,6 @@ module _ {S : Type 0} {m : Stream S} {Live : S → Type 0} {modular : Bool} (w :
   part k (Err d) x h = tt
 
 module _ {S : Type 0} (m : Stream S) (Live : S → Type 0) where
-  -- the code of a script, and that of a module
-  code_of : (modules : Bool) (x : EsSyntax) → (if modules then module_code x else script_code x).context.module_ ≡ modules
-  code_of true x = refl
-  code_of false x = refl
-
   pub programs_read : ProgramsRead m Live
   unfolding read_list read_program
   programs_read modules w depth syntax s ps t a h e = finished w (start_at w s ps) _ _ t

@@ -1,5 +1,7 @@
 -- Patterns, statements, functions and classes (ECMA-262, clauses 14 and 15): their rules over a source and over the list that it hands out.
-use Rattle.std.proofs.Common.{◌≡◌, ℕ, Bool, true, false, not, ◌&&◌, ◌||◌, ◌==◌, cond, if◌then◌else◌, List, [], ◌∷◌, ◌++◌, Result, Ok, refl, sym, ap, ap₂, ◌∙◌, subst, true≢false}
+use Rattle.std.proofs.Common.{◌≡◌, ℕ, Bool, true, false, not, ◌&&◌, ◌||◌, ◌==◌, cond, if◌then◌else◌, List, [], ◌∷◌, ◌++◌, Result, Ok, refl, sym, ap, ap₂, ◌∙◌, subst}
+use Rattle.std.proofs.lemmas.Bool.{and_right}
+use Rattle.base_proofs.proofs.Bools.{and_second, and_first, and_same}
 use Rattle.base_token.specs.declared.place.Span.{Span}
 use Rattle.base_token.specs.Kinds.{div_kind, div_assign_kind, dot_dot_dot_kind, left_paren_kind, right_paren_kind, left_bracket_kind, right_bracket_kind, left_brace_kind, right_brace_kind, semicolon_kind, comma_kind, colon_kind, hash_kind, mul_kind, assign_kind, await_kind, break_kind, case_kind, catch_kind, continue_kind, debugger_kind, default_kind, do_kind, else_kind, finally_kind, for_kind, function_kind, if_kind, return_kind, switch_kind, throw_kind, try_kind, var_kind, let_kind, const_kind, while_kind, with_kind, class_kind, extends_kind, in_kind, async_kind, of_kind, using_kind, static_kind, accessor_kind, get_kind, set_kind}
 use Rattle.tree_spec.specs.Tree.{Tree, none, more, pack, plain_method, block_stmt, empty_stmt, debugger_stmt, with_stmt, return_stmt, labeled_stmt, break_stmt, continue_stmt, switch_stmt, switch_case, throw_stmt, try_stmt, catch_clause, while_stmt, do_while_stmt, for_stmt, for_in_stmt, for_of_stmt, expr_stmt, class_decl, fn_decl, var_decl, using_decl, var_declarator, function, class, class_prop, private_prop, static_block, auto_accessor, ident, binding_ident, array_pat, rest_pat, object_pat, assign_pat, key_value_pat_prop, assign_pat_prop, absent}
@@ -12,17 +14,10 @@ use Rattle.base_token.specs.declared.context.Context.{Context}
 use Rattle.grammar_spec.specs.Reader.Expressions.{first, function_by, is_async_head}
 use Rattle.grammar_spec.specs.Reader.Statements.{Body, Chain, chained, initial_pat, after_item, array_item, array_pat_by, keyed_item, named_item, pattern_prop, object_item, object_pat_by, pat_by, block_step, block_rest, block_by, body_item, body_step, body_by, declarator_by, declarator_step, declarators_by, starts_let, starts_variables, variables_by, starts_using, starts_await_using, using_by, function_decl_by, class_decl_by, field_value, class_key, method_tree, constructor_of, class_method_by, class_getter, class_setter, accessor_by, field_or_method, generator_member, member_rest, starts_static, static_by, member_step, members_by, class_tail_by, in_parens, sub_by, with_by, while_by, do_by, branched, else_by, if_step, if_by, ends_here, return_by, throw_by, label_by, jump_by, debugger_by, case_step, case_rest, case_by, has_default, cases_step, switch_by, catch_by, finally_by, try_by, clause_by, for_rest, over_rest, in_rest, of_rest, one_bare, head_rest, for_variables, for_using, for_expression_rest, for_expression, for_head, for_by, labelled_by, expression_by, starts_async, keyword_stmt, stmt_by, stmt_from}
 use Rattle.parse_source_laws.specs.Sources.{is_slash, one, two, Orderly}
-use Rattle.parse_source_laws.proofs.Beside.{lm, on, Ceiling, kinded, Plain, and_left, and_right, Beside, Joined, Told, agree1, agree2, at_same, lo_same, span_same, joined_by, joined_at, joined2, kind_two, has_same, first_same, kind_as, told_ok, never, told_then, told_if, told_at, told_pure, told_eat, told_word, told_own, told_name, told_name_of, told_end, told_iterate, told_iterate_in, Keeps, keeps_if, keeps_then, turned_beside, told_operand, Refused, refused_then, refused_else, at_slash, told_refused, Heard, same_constructor, same_default, same_bare}
+use Rattle.parse_source_laws.proofs.Beside.{lm, on, Ceiling, kinded, Plain, Beside, Joined, Told, agree1, agree2, at_same, lo_same, span_same, joined_by, joined_at, joined2, kind_two, has_same, first_same, kind_as, told_ok, never, told_then, told_if, told_at, told_pure, told_eat, told_word, told_own, told_name, told_name_of, told_end, told_iterate, told_iterate_in, Keeps, keeps_if, keeps_then, turned_beside, told_operand, Refused, refused_then, refused_else, at_slash, told_refused, Heard, same_constructor, same_default, same_bare}
 use Rattle.parse_source_laws.proofs.Expressions.{key_by_told, private_by_told, function_by_told, setter_parameter_told, star_told}
 
 module _ {S : Type 0} {m : Stream S} {Live : S → Type 0} {modular : Bool} (w : Orderly m Live modular) {il : Inner Input} {im : Inner S} (told : Heard m Live modular il im) where
-  -- tests that look behind the token that comes
-  and_same : (a b x y : Bool) → a ≡ b → (a ≡ true → x ≡ y) → (a && x) ≡ (b && y)
-  and_same true true x y e h = h refl
-  and_same false false x y e h = refl
-  and_same true false x y e h = absurd (true≢false e)
-  and_same false true x y e h = absurd (true≢false (sym e))
-
   using_same : (c : Code) (k : Ceiling) (s : State S) (s' : State Input) → Beside m Live k s s' → starts_using lm il c s' ≡ starts_using m im c s
   using_same c k s s' h = agree2 w (λ z. starts_using lm il c (on [] 0 z)) (λ p q l v. refl) (λ p q l v. refl) (λ n p q l v. refl) (λ n p q l v. refl) (λ n p l v. refl) k s s' h
 
@@ -34,10 +29,10 @@ module _ {S : Type 0} {m : Stream S} {Live : S → Type 0} {modular : Bool} (w :
           (ap₂ (λ (a b : Bool). not a && b) (joined2 w (λ z. brk2 (record { last = 0; places = z })) (λ n p q l v. refl) (λ n p q l v. refl) (λ n p l v. refl) k s s' j) (using_same c k (past m s) (past lm s') j.after))
 
   await_using_joined : (k : Ceiling) (c : Code) (s : State S) (s' : State Input) → Beside m Live k s s' → starts_await_using lm il c s' ≡ true → Joined m Live k s s'
-  await_using_joined k c s s' h y = joined_at w await_kind (refl, refl, refl, refl) k s s' h (and_left _ _ (and_right c.context.in_async (at lm await_kind s' && (not (barred c.context (input lm s')) && (not (brk2 (input lm s')) && starts_using lm il c (past lm s')))) y))
+  await_using_joined k c s s' h y = joined_at w await_kind (refl, refl, refl, refl) k s s' h (and_first _ _ (and_second c.context.in_async (at lm await_kind s' && (not (barred c.context (input lm s')) && (not (brk2 (input lm s')) && starts_using lm il c (past lm s')))) y))
 
   using_joined : (k : Ceiling) (c : Code) (s : State S) (s' : State Input) → Beside m Live k s s' → starts_using lm il c s' ≡ true → Joined m Live k s s'
-  using_joined k c s s' h y = joined_at w using_kind (refl, refl, refl, refl) k s s' h (and_left _ _ (and_right c.syntax.explicit_resource_management (at lm using_kind s' && (may_name (kind2 (input lm s')) && not (brk2 (input lm s')))) y))
+  using_joined k c s s' h y = joined_at w using_kind (refl, refl, refl, refl) k s s' h (and_first _ _ (and_second c.syntax.explicit_resource_management (at lm using_kind s' && (may_name (kind2 (input lm s')) && not (brk2 (input lm s')))) y))
 
   using_of_same : (k : Ceiling) (c : Code) (s : State S) (s' : State Input) → Beside m Live k s s' → (starts_using lm il c s' && not (kind2 (input lm s') == of_kind)) ≡ (starts_using m im c s && not (kind2 (input m s) == of_kind))
   using_of_same k c s s' h = and_same (starts_using lm il c s') (starts_using m im c s) _ _ (using_same c k s s' h)
@@ -52,7 +47,7 @@ module _ {S : Type 0} {m : Stream S} {Live : S → Type 0} {modular : Bool} (w :
   await_of_same k c s s' h = and_same (starts_await_using lm il c s') (starts_await_using m im c s) _ _ (await_using_same k c s s' h) (λ y. ap not (third_same k s s' (await_using_joined k c s s' h y) (behind (await_using_joined k c s s' h y) y)))
     where
       behind : Joined m Live k s s' → starts_await_using lm il c s' ≡ true → Joined m Live k (past m s) (past lm s')
-      behind j y = using_joined k c (past m s) (past lm s') j.after (and_right (not (brk2 (input lm s'))) (starts_using lm il c (past lm s')) (and_right (not (barred c.context (input lm s'))) (not (brk2 (input lm s')) && starts_using lm il c (past lm s')) (and_right (at lm await_kind s') (not (barred c.context (input lm s')) && (not (brk2 (input lm s')) && starts_using lm il c (past lm s'))) (and_right c.context.in_async (at lm await_kind s' && (not (barred c.context (input lm s')) && (not (brk2 (input lm s')) && starts_using lm il c (past lm s')))) y))))
+      behind j y = using_joined k c (past m s) (past lm s') j.after (and_second (not (brk2 (input lm s'))) (starts_using lm il c (past lm s')) (and_second (not (barred c.context (input lm s'))) (not (brk2 (input lm s')) && starts_using lm il c (past lm s')) (and_second (at lm await_kind s') (not (barred c.context (input lm s')) && (not (brk2 (input lm s')) && starts_using lm il c (past lm s'))) (and_second c.context.in_async (at lm await_kind s' && (not (barred c.context (input lm s')) && (not (brk2 (input lm s')) && starts_using lm il c (past lm s')))) y))))
 
   -- the words that declare variables
   declares : ℕ → Bool
@@ -65,14 +60,14 @@ module _ {S : Type 0} {m : Stream S} {Live : S → Type 0} {modular : Bool} (w :
       less : (a b d e : Bool) → (a || (b || (d && e))) ≡ true → (a || (b || d)) ≡ true
       less true b d e y = refl
       less false true d e y = refl
-      less false false d e y = and_left d e y
+      less false false d e y = and_first d e y
 
   variables_joined : (k : Ceiling) (c : Code) (s : State S) (s' : State Input) → Beside m Live k s s' → starts_variables lm il c s' ≡ true → Joined m Live k s s'
   variables_joined k c s s' h y = head_joined k s s' h (less (at lm var_kind s') c.listed (at lm const_kind s' || starts_let lm il s') y)
     where
       less : (a b d : Bool) → (a || (b && d)) ≡ true → (a || d) ≡ true
       less true b d y = refl
-      less false b d y = and_right b d y
+      less false b d y = and_second b d y
 
   pub initial_pat_told : (k : Ceiling) (c : Code) (ce : c.context.module_ ≡ modular) (startc : Ceiling) (start : State S) (start' : State Input) (starth : Beside m Live startc start start') (p : Tree) (s : State S) (s' : State Input) (sh : Beside m Live k s s') → Told m Live k (initial_pat lm il c start' p s') (initial_pat m im c start p s)
   unfolding initial_pat
@@ -80,7 +75,7 @@ module _ {S : Type 0} {m : Stream S} {Live : S → Type 0} {modular : Bool} (w :
 
   pub after_item_told : (k : Ceiling) (close : ℕ) (shut : Plain close) (last : Bool) (items : List Tree) (s : State S) (s' : State Input) (sh : Beside m Live k s s') → Told m Live k (after_item lm il close last items s') (after_item m im close last items s)
   unfolding after_item
-  after_item_told k close shut last items s s' sh = told_if w k _ _ (agree1 w (λ z. at lm comma_kind (on [] 0 z) && not last) (λ p q l v. refl) (λ p q l v. refl) (λ p l v. refl) k s s' sh) _ _ _ _ (λ y1. told_ok w k _ _ (past m s) (past lm s') (joined_at w comma_kind (refl, refl, refl, refl) k s s' sh (and_left (at lm comma_kind s') (not last) y1)).after refl) (λ _. told_eat w k close shut s s' sh _ _ (λ j2. told_ok w k _ _ (past m s) (past lm s') j2.after refl))
+  after_item_told k close shut last items s s' sh = told_if w k _ _ (agree1 w (λ z. at lm comma_kind (on [] 0 z) && not last) (λ p q l v. refl) (λ p q l v. refl) (λ p l v. refl) k s s' sh) _ _ _ _ (λ y1. told_ok w k _ _ (past m s) (past lm s') (joined_at w comma_kind (refl, refl, refl, refl) k s s' sh (and_first (at lm comma_kind s') (not last) y1)).after refl) (λ _. told_eat w k close shut s s' sh _ _ (λ j2. told_ok w k _ _ (past m s) (past lm s') j2.after refl))
 
   pub array_item_told : (k : Ceiling) (c : Code) (ce : c.context.module_ ≡ modular) (xs : List Tree) (s : State S) (s' : State Input) (sh : Beside m Live k s s') → Told m Live k (array_item lm il c xs s') (array_item m im c xs s)
   unfolding array_item
@@ -208,7 +203,7 @@ module _ {S : Type 0} {m : Stream S} {Live : S → Type 0} {modular : Bool} (w :
 
   pub member_rest_told : (k : Ceiling) (c : Code) (ce : c.context.module_ ≡ modular) (startc : Ceiling) (start : State S) (start' : State Input) (starth : Beside m Live startc start start') (is_static : Bool) (s : State S) (s' : State Input) (sh : Beside m Live k s s') → Told m Live k (member_rest lm il c start' is_static s') (member_rest m im c start is_static s)
   unfolding member_rest
-  member_rest_told k c ce startc start start' starth is_static s s' sh = told_at w k mul_kind (refl, refl, refl, refl) s s' sh _ _ _ _ (λ j1. generator_member_told k c ce startc start start' starth is_static false s s' sh) (told_if w k _ _ (agree2 w (λ z. is_async_head lm il (on [] 0 z)) (λ p q l v. refl) (λ p q l v. refl) (λ n p q l v. refl) (λ n p q l v. refl) (λ n p l v. refl) k s s' sh) _ _ _ _ (λ y2. generator_member_told k c ce startc start start' starth is_static true (past m s) (past lm s') (joined_at w async_kind (refl, refl, refl, refl) k s s' sh (and_left _ _ y2)).after) (λ _. told_if w k _ _ (agree2 w (λ z. at lm get_kind (on [] 0 z) && starts_key (kind2 (input lm (on [] 0 z)))) (λ p q l v. refl) (λ p q l v. refl) (λ n p q l v. refl) (λ n p q l v. refl) (λ n p l v. refl) k s s' sh) _ _ _ _ (λ y3. class_getter_told k c ce startc start start' starth is_static s s' (joined_at w get_kind (refl, refl, refl, refl) k s s' sh (and_left (at lm get_kind s') (starts_key (kind2 (input lm s'))) y3))) (λ _. told_if w k _ _ (agree2 w (λ z. at lm set_kind (on [] 0 z) && starts_key (kind2 (input lm (on [] 0 z)))) (λ p q l v. refl) (λ p q l v. refl) (λ n p q l v. refl) (λ n p q l v. refl) (λ n p l v. refl) k s s' sh) _ _ _ _ (λ y4. class_setter_told k c ce startc start start' starth is_static s s' (joined_at w set_kind (refl, refl, refl, refl) k s s' sh (and_left (at lm set_kind s') (starts_key (kind2 (input lm s'))) y4))) (λ _. told_if w k _ _ (agree2 w (λ z. c.syntax.auto_accessors && (at lm accessor_kind (on [] 0 z) && (starts_key (kind2 (input lm (on [] 0 z))) && not (brk2 (input lm (on [] 0 z)))))) (λ p q l v. refl) (λ p q l v. refl) (λ n p q l v. refl) (λ n p q l v. refl) (λ n p l v. refl) k s s' sh) _ _ _ _ (λ y5. accessor_by_told k c ce startc start start' starth is_static s s' (joined_at w accessor_kind (refl, refl, refl, refl) k s s' sh (and_left (at lm accessor_kind s') ((starts_key (kind2 (input lm s')) && not (brk2 (input lm s')))) (and_right (c.syntax.auto_accessors) ((at lm accessor_kind s' && (starts_key (kind2 (input lm s')) && not (brk2 (input lm s'))))) y5)))) (λ _. field_or_method_told k c ce startc start start' starth is_static s s' sh)))))
+  member_rest_told k c ce startc start start' starth is_static s s' sh = told_at w k mul_kind (refl, refl, refl, refl) s s' sh _ _ _ _ (λ j1. generator_member_told k c ce startc start start' starth is_static false s s' sh) (told_if w k _ _ (agree2 w (λ z. is_async_head lm il (on [] 0 z)) (λ p q l v. refl) (λ p q l v. refl) (λ n p q l v. refl) (λ n p q l v. refl) (λ n p l v. refl) k s s' sh) _ _ _ _ (λ y2. generator_member_told k c ce startc start start' starth is_static true (past m s) (past lm s') (joined_at w async_kind (refl, refl, refl, refl) k s s' sh (and_first _ _ y2)).after) (λ _. told_if w k _ _ (agree2 w (λ z. at lm get_kind (on [] 0 z) && starts_key (kind2 (input lm (on [] 0 z)))) (λ p q l v. refl) (λ p q l v. refl) (λ n p q l v. refl) (λ n p q l v. refl) (λ n p l v. refl) k s s' sh) _ _ _ _ (λ y3. class_getter_told k c ce startc start start' starth is_static s s' (joined_at w get_kind (refl, refl, refl, refl) k s s' sh (and_first (at lm get_kind s') (starts_key (kind2 (input lm s'))) y3))) (λ _. told_if w k _ _ (agree2 w (λ z. at lm set_kind (on [] 0 z) && starts_key (kind2 (input lm (on [] 0 z)))) (λ p q l v. refl) (λ p q l v. refl) (λ n p q l v. refl) (λ n p q l v. refl) (λ n p l v. refl) k s s' sh) _ _ _ _ (λ y4. class_setter_told k c ce startc start start' starth is_static s s' (joined_at w set_kind (refl, refl, refl, refl) k s s' sh (and_first (at lm set_kind s') (starts_key (kind2 (input lm s'))) y4))) (λ _. told_if w k _ _ (agree2 w (λ z. c.syntax.auto_accessors && (at lm accessor_kind (on [] 0 z) && (starts_key (kind2 (input lm (on [] 0 z))) && not (brk2 (input lm (on [] 0 z)))))) (λ p q l v. refl) (λ p q l v. refl) (λ n p q l v. refl) (λ n p q l v. refl) (λ n p l v. refl) k s s' sh) _ _ _ _ (λ y5. accessor_by_told k c ce startc start start' starth is_static s s' (joined_at w accessor_kind (refl, refl, refl, refl) k s s' sh (and_first (at lm accessor_kind s') ((starts_key (kind2 (input lm s')) && not (brk2 (input lm s')))) (and_second (c.syntax.auto_accessors) ((at lm accessor_kind s' && (starts_key (kind2 (input lm s')) && not (brk2 (input lm s'))))) y5)))) (λ _. field_or_method_told k c ce startc start start' starth is_static s s' sh)))))
 
   pub static_by_told : (k : Ceiling) (c : Code) (ce : c.context.module_ ≡ modular) (s : State S) (s' : State Input) (sh : Beside m Live k s s') → Told m Live k (static_by lm il c s') (static_by m im c s)
   unfolding static_by
@@ -373,7 +368,7 @@ module _ {S : Type 0} {m : Stream S} {Live : S → Type 0} {modular : Bool} (w :
 
   pub for_head_told : (k : Ceiling) (c : Code) (ce : c.context.module_ ≡ modular) (startc : Ceiling) (start : State S) (start' : State Input) (starth : Beside m Live startc start start') (awaits : Bool) (s : State S) (s' : State Input) (sh : Beside m Live k s s') → Told m Live k (for_head lm il c start' awaits s') (for_head m im c start awaits s)
   unfolding for_head
-  for_head_told k c ce startc start start' starth awaits s s' sh = told_at w k semicolon_kind (refl, refl, refl, refl) s s' sh _ _ _ _ (λ j1. told_if w k (awaits) (awaits) refl _ _ _ _ (λ _. never w k _ _) (λ _. for_rest_told k c ce startc start start' starth absent s s' sh)) (told_if w k _ _ (agree2 w (λ z. at lm var_kind (on [] 0 z) || (at lm const_kind (on [] 0 z) || starts_let lm il (on [] 0 z))) (λ p q l v. refl) (λ p q l v. refl) (λ n p q l v. refl) (λ n p q l v. refl) (λ n p l v. refl) k s s' sh) _ _ _ _ (λ y2. for_variables_told k c ce startc start start' starth awaits s s' (head_joined k s s' sh y2)) (λ _. told_if w k _ _ (using_of_same k c s s' sh) _ _ _ _ (λ y3. for_using_told k c ce startc start start' starth awaits k s s' sh false s s' sh) (λ _. told_if w k _ _ (await_of_same k c s s' sh) _ _ _ _ (λ y4. for_using_told k c ce startc start start' starth awaits k s s' sh true (past m s) (past lm s') (await_using_joined k c s s' sh (and_left (starts_await_using lm il c s') (not (kind2 (rest (input lm s')) == of_kind)) y4)).after) (λ _. for_expression_told k c ce startc start start' starth awaits s s' sh))))
+  for_head_told k c ce startc start start' starth awaits s s' sh = told_at w k semicolon_kind (refl, refl, refl, refl) s s' sh _ _ _ _ (λ j1. told_if w k (awaits) (awaits) refl _ _ _ _ (λ _. never w k _ _) (λ _. for_rest_told k c ce startc start start' starth absent s s' sh)) (told_if w k _ _ (agree2 w (λ z. at lm var_kind (on [] 0 z) || (at lm const_kind (on [] 0 z) || starts_let lm il (on [] 0 z))) (λ p q l v. refl) (λ p q l v. refl) (λ n p q l v. refl) (λ n p q l v. refl) (λ n p l v. refl) k s s' sh) _ _ _ _ (λ y2. for_variables_told k c ce startc start start' starth awaits s s' (head_joined k s s' sh y2)) (λ _. told_if w k _ _ (using_of_same k c s s' sh) _ _ _ _ (λ y3. for_using_told k c ce startc start start' starth awaits k s s' sh false s s' sh) (λ _. told_if w k _ _ (await_of_same k c s s' sh) _ _ _ _ (λ y4. for_using_told k c ce startc start start' starth awaits k s s' sh true (past m s) (past lm s') (await_using_joined k c s s' sh (and_first (starts_await_using lm il c s') (not (kind2 (rest (input lm s')) == of_kind)) y4)).after) (λ _. for_expression_told k c ce startc start start' starth awaits s s' sh))))
 
   pub for_by_told : (k : Ceiling) (c : Code) (ce : c.context.module_ ≡ modular) (s : State S) (s' : State Input) (sh : Beside m Live k s s') → Told m Live k (for_by lm il c s') (for_by m im c s)
   unfolding for_by
@@ -385,28 +380,23 @@ module _ {S : Type 0} {m : Stream S} {Live : S → Type 0} {modular : Bool} (w :
 
   pub expression_by_told : (k : Ceiling) (c : Code) (ce : c.context.module_ ≡ modular) (s : State S) (s' : State Input) (sh : Beside m Live k s s') → Told m Live k (expression_by lm il c s') (expression_by m im c s)
   unfolding expression_by
-  expression_by_told k c ce s s' sh = told_if w k _ _ (agree2 w (λ z. at lm let_kind (on [] 0 z) && (kind2 (input lm (on [] 0 z)) == left_bracket_kind)) (λ p q l v. refl) (λ p q l v. refl) (λ n p q l v. refl) (λ n p q l v. refl) (λ n p l v. refl) k s s' sh) _ _ _ _ (λ y1. never w k _ _) (λ _. told_then w k _ _ _ _ (told.expr k c ce expression_level s s' sh) (λ e0 e1 e1' e1h. told_if w k _ _ (agree1 w (λ z. is_name e0 && at lm colon_kind (on [] 0 z)) (λ p q l v. refl) (λ p q l v. refl) (λ p l v. refl) k e1 e1' e1h) _ _ _ _ (λ y2. labelled_by_told k c ce k s s' sh e0 e1 e1' (joined_at w colon_kind (refl, refl, refl, refl) k e1 e1' e1h (and_right (is_name e0) (at lm colon_kind e1') y2))) (λ _. told_end w k c _ _ (ap (λ (z : ℕ). z) (ap (λ (b : Bool). if c.listed && (b && is_name e0) then let_end else ends e0) (at_same w let_kind (refl, refl, refl, refl) k s s' sh))) e1 e1' e1h _ _ (λ r1 r1' r1h. told_ok w k _ _ r1 r1' r1h (ap (λ (z : Span). expr_stmt z e0) (span_same w k k s r1 s' r1' sh r1h))))))
+  expression_by_told k c ce s s' sh = told_if w k _ _ (agree2 w (λ z. at lm let_kind (on [] 0 z) && (kind2 (input lm (on [] 0 z)) == left_bracket_kind)) (λ p q l v. refl) (λ p q l v. refl) (λ n p q l v. refl) (λ n p q l v. refl) (λ n p l v. refl) k s s' sh) _ _ _ _ (λ y1. never w k _ _) (λ _. told_then w k _ _ _ _ (told.expr k c ce expression_level s s' sh) (λ e0 e1 e1' e1h. told_if w k _ _ (agree1 w (λ z. is_name e0 && at lm colon_kind (on [] 0 z)) (λ p q l v. refl) (λ p q l v. refl) (λ p l v. refl) k e1 e1' e1h) _ _ _ _ (λ y2. labelled_by_told k c ce k s s' sh e0 e1 e1' (joined_at w colon_kind (refl, refl, refl, refl) k e1 e1' e1h (and_second (is_name e0) (at lm colon_kind e1') y2))) (λ _. told_end w k c _ _ (ap (λ (z : ℕ). z) (ap (λ (b : Bool). if c.listed && (b && is_name e0) then let_end else ends e0) (at_same w let_kind (refl, refl, refl, refl) k s s' sh))) e1 e1' e1h _ _ (λ r1 r1' r1h. told_ok w k _ _ r1 r1' r1h (ap (λ (z : Span). expr_stmt z e0) (span_same w k k s r1 s' r1' sh r1h))))))
 
   pub keyword_stmt_told : (k : Ceiling) (c : Code) (ce : c.context.module_ ≡ modular) (s : State S) (s' : State Input) (sh : Beside m Live k s s') → Told m Live k (keyword_stmt lm il c s') (keyword_stmt m im c s)
   unfolding keyword_stmt
-  keyword_stmt_told k c ce s s' sh = told_at w k if_kind (refl, refl, refl, refl) s s' sh _ _ _ _ (λ j1. if_by_told k c ce s s' sh) (told_at w k return_kind (refl, refl, refl, refl) s s' sh _ _ _ _ (λ j2. return_by_told k c ce s s' sh) (told_at w k for_kind (refl, refl, refl, refl) s s' sh _ _ _ _ (λ j3. for_by_told k c ce s s' sh) (told_at w k while_kind (refl, refl, refl, refl) s s' sh _ _ _ _ (λ j4. while_by_told k c ce s s' sh) (told_at w k do_kind (refl, refl, refl, refl) s s' sh _ _ _ _ (λ j5. do_by_told k c ce s s' sh) (told_at w k switch_kind (refl, refl, refl, refl) s s' sh _ _ _ _ (λ j6. switch_by_told k c ce s s' sh) (told_at w k try_kind (refl, refl, refl, refl) s s' sh _ _ _ _ (λ j7. try_by_told k c ce s s' sh) (told_at w k throw_kind (refl, refl, refl, refl) s s' sh _ _ _ _ (λ j8. throw_by_told k c ce s s' sh) (told_at w k break_kind (refl, refl, refl, refl) s s' sh _ _ _ _ (λ j9. jump_by_told k break_kind (refl, refl, refl, refl) break_stmt c ce s s' sh) (told_at w k continue_kind (refl, refl, refl, refl) s s' sh _ _ _ _ (λ j10. jump_by_told k continue_kind (refl, refl, refl, refl) continue_stmt c ce s s' sh) (told_at w k with_kind (refl, refl, refl, refl) s s' sh _ _ _ _ (λ j11. with_by_told k c ce s s' sh) (told_at w k debugger_kind (refl, refl, refl, refl) s s' sh _ _ _ _ (λ j12. debugger_by_told k c ce s s' sh) (told_at w k function_kind (refl, refl, refl, refl) s s' sh _ _ _ _ (λ j13. function_decl_by_told k c ce k s s' sh false s s' sh) (told_at w k class_kind (refl, refl, refl, refl) s s' sh _ _ _ _ (λ j14. told_if w k (c.listed) (c.listed) refl _ _ _ _ (λ _. class_decl_by_told k c ce s s' sh) (λ _. never w k _ _)) (told_if w k _ _ (agree2 w (λ z. starts_async lm il (on [] 0 z)) (λ p q l v. refl) (λ p q l v. refl) (λ n p q l v. refl) (λ n p q l v. refl) (λ n p l v. refl) k s s' sh) _ _ _ _ (λ y15. told_if w k (c.listed) (c.listed) refl _ _ _ _ (λ _. function_decl_by_told k c ce k s s' sh true (past m s) (past lm s') (joined_at w async_kind (refl, refl, refl, refl) k s s' sh (and_left _ _ y15)).after) (λ _. never w k _ _)) (λ _. told_if w k _ _ (agree2 w (λ z. starts_variables lm il c (on [] 0 z)) (λ p q l v. refl) (λ p q l v. refl) (λ n p q l v. refl) (λ n p q l v. refl) (λ n p l v. refl) k s s' sh) _ _ _ _ (λ y16. variables_by_told k c ce s s' (variables_joined k c s s' sh y16)) (λ _. told_if w k _ _ (agree2 w (λ z. c.listed && starts_using lm il c (on [] 0 z)) (λ p q l v. refl) (λ p q l v. refl) (λ n p q l v. refl) (λ n p q l v. refl) (λ n p l v. refl) k s s' sh) _ _ _ _ (λ y17. using_by_told k c ce k s s' sh false s s' sh) (λ _. told_if w k _ _ (ap (λ (b : Bool). c.listed && b) (await_using_same k c s s' sh)) _ _ _ _ (λ y18. using_by_told k c ce k s s' sh true (past m s) (past lm s') (await_using_joined k c s s' sh (and_right c.listed (starts_await_using lm il c s') y18)).after) (λ _. expression_by_told k c ce s s' sh))))))))))))))))))
+  keyword_stmt_told k c ce s s' sh = told_at w k if_kind (refl, refl, refl, refl) s s' sh _ _ _ _ (λ j1. if_by_told k c ce s s' sh) (told_at w k return_kind (refl, refl, refl, refl) s s' sh _ _ _ _ (λ j2. return_by_told k c ce s s' sh) (told_at w k for_kind (refl, refl, refl, refl) s s' sh _ _ _ _ (λ j3. for_by_told k c ce s s' sh) (told_at w k while_kind (refl, refl, refl, refl) s s' sh _ _ _ _ (λ j4. while_by_told k c ce s s' sh) (told_at w k do_kind (refl, refl, refl, refl) s s' sh _ _ _ _ (λ j5. do_by_told k c ce s s' sh) (told_at w k switch_kind (refl, refl, refl, refl) s s' sh _ _ _ _ (λ j6. switch_by_told k c ce s s' sh) (told_at w k try_kind (refl, refl, refl, refl) s s' sh _ _ _ _ (λ j7. try_by_told k c ce s s' sh) (told_at w k throw_kind (refl, refl, refl, refl) s s' sh _ _ _ _ (λ j8. throw_by_told k c ce s s' sh) (told_at w k break_kind (refl, refl, refl, refl) s s' sh _ _ _ _ (λ j9. jump_by_told k break_kind (refl, refl, refl, refl) break_stmt c ce s s' sh) (told_at w k continue_kind (refl, refl, refl, refl) s s' sh _ _ _ _ (λ j10. jump_by_told k continue_kind (refl, refl, refl, refl) continue_stmt c ce s s' sh) (told_at w k with_kind (refl, refl, refl, refl) s s' sh _ _ _ _ (λ j11. with_by_told k c ce s s' sh) (told_at w k debugger_kind (refl, refl, refl, refl) s s' sh _ _ _ _ (λ j12. debugger_by_told k c ce s s' sh) (told_at w k function_kind (refl, refl, refl, refl) s s' sh _ _ _ _ (λ j13. function_decl_by_told k c ce k s s' sh false s s' sh) (told_at w k class_kind (refl, refl, refl, refl) s s' sh _ _ _ _ (λ j14. told_if w k (c.listed) (c.listed) refl _ _ _ _ (λ _. class_decl_by_told k c ce s s' sh) (λ _. never w k _ _)) (told_if w k _ _ (agree2 w (λ z. starts_async lm il (on [] 0 z)) (λ p q l v. refl) (λ p q l v. refl) (λ n p q l v. refl) (λ n p q l v. refl) (λ n p l v. refl) k s s' sh) _ _ _ _ (λ y15. told_if w k (c.listed) (c.listed) refl _ _ _ _ (λ _. function_decl_by_told k c ce k s s' sh true (past m s) (past lm s') (joined_at w async_kind (refl, refl, refl, refl) k s s' sh (and_first _ _ y15)).after) (λ _. never w k _ _)) (λ _. told_if w k _ _ (agree2 w (λ z. starts_variables lm il c (on [] 0 z)) (λ p q l v. refl) (λ p q l v. refl) (λ n p q l v. refl) (λ n p q l v. refl) (λ n p l v. refl) k s s' sh) _ _ _ _ (λ y16. variables_by_told k c ce s s' (variables_joined k c s s' sh y16)) (λ _. told_if w k _ _ (agree2 w (λ z. c.listed && starts_using lm il c (on [] 0 z)) (λ p q l v. refl) (λ p q l v. refl) (λ n p q l v. refl) (λ n p q l v. refl) (λ n p l v. refl) k s s' sh) _ _ _ _ (λ y17. using_by_told k c ce k s s' sh false s s' sh) (λ _. told_if w k _ _ (ap (λ (b : Bool). c.listed && b) (await_using_same k c s s' sh)) _ _ _ _ (λ y18. using_by_told k c ce k s s' sh true (past m s) (past lm s') (await_using_joined k c s s' sh (and_second c.listed (starts_await_using lm il c s') y18)).after) (λ _. expression_by_told k c ce s s' sh))))))))))))))))))
 
   pub stmt_by_told : (k : Ceiling) (c : Code) (ce : c.context.module_ ≡ modular) (s : State S) (s' : State Input) (sh : Beside m Live k s s') → Told m Live k (stmt_by lm il c s') (stmt_by m im c s)
   unfolding stmt_by
   stmt_by_told k c ce s s' sh = told_at w k semicolon_kind (refl, refl, refl, refl) s s' sh _ _ _ _ (λ j1. told_ok w k _ _ (past m s) (past lm s') j1.after (ap (λ (z : Span). empty_stmt z) (first_same w k s s' j1))) (told_at w k left_brace_kind (refl, refl, refl, refl) s s' sh _ _ _ _ (λ j2. block_by_told k c ce s s' sh) (keyword_stmt_told k c ce s s' sh))
 
-  -- No statement starts with a slash.
-  and_false : (a b : Bool) → b ≡ false → (a && b) ≡ false
-  and_false true b e = e
-  and_false false b e = refl
-
   stmt_refused : (c : Code) (r : State Input) → is_slash (kind (input lm r)) ≡ true → Refused (stmt_by lm il c r)
   unfolding stmt_by keyword_stmt expression_by
   stmt_refused c r e = at_slash (λ z. is_slash (kind (input lm z)) ≡ true → Refused (stmt_by lm il c z))
-      (λ o n p l i. refused_else (c.listed && false) _ _ (and_false c.listed false refl) (refused_else (c.listed && (c.syntax.explicit_resource_management && false)) _ _ (and_false c.listed _ (and_false c.syntax.explicit_resource_management false refl))
-      (refused_else (c.listed && (c.context.in_async && false)) _ _ (and_false c.listed _ (and_false c.context.in_async false refl)) (refused_then _ _ (told.no_expr c expression_level (on o n (kinded div_assign_kind p ∷ l)) i)))))
-      (λ o n p l i. refused_else (c.listed && false) _ _ (and_false c.listed false refl) (refused_else (c.listed && (c.syntax.explicit_resource_management && false)) _ _ (and_false c.listed _ (and_false c.syntax.explicit_resource_management false refl))
-      (refused_else (c.listed && (c.context.in_async && false)) _ _ (and_false c.listed _ (and_false c.context.in_async false refl)) (refused_then _ _ (told.no_expr c expression_level (on o n (kinded div_kind p ∷ l)) i))))) r e e
+      (λ o n p l i. refused_else (c.listed && false) _ _ (and_right c.listed false refl) (refused_else (c.listed && (c.syntax.explicit_resource_management && false)) _ _ (and_right c.listed _ (and_right c.syntax.explicit_resource_management false refl))
+      (refused_else (c.listed && (c.context.in_async && false)) _ _ (and_right c.listed _ (and_right c.context.in_async false refl)) (refused_then _ _ (told.no_expr c expression_level (on o n (kinded div_assign_kind p ∷ l)) i)))))
+      (λ o n p l i. refused_else (c.listed && false) _ _ (and_right c.listed false refl) (refused_else (c.listed && (c.syntax.explicit_resource_management && false)) _ _ (and_right c.listed _ (and_right c.syntax.explicit_resource_management false refl))
+      (refused_else (c.listed && (c.context.in_async && false)) _ _ (and_right c.listed _ (and_right c.context.in_async false refl)) (refused_then _ _ (told.no_expr c expression_level (on o n (kinded div_kind p ∷ l)) i))))) r e e
 
   pub stmt_from_refused : (c : Code) (r : State Input) → is_slash (kind (input lm r)) ≡ true → Refused (stmt_from lm il c r)
   unfolding stmt_from

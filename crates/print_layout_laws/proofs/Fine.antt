@@ -1,5 +1,7 @@
 -- A layout in which nothing is refused, and the parts that many nodes share.
-use Rattle.std.proofs.Common.{◌≡◌, ℕ, Bool, true, false, ◌&&◌, ◌||◌, ◌==◌, not, if◌then◌else◌, List, Option, Some, None, refl, sym, true≢false}
+use Rattle.std.proofs.Common.{◌≡◌, ℕ, Bool, true, false, ◌&&◌, ◌==◌, not, if◌then◌else◌, List, Option, Some, None, refl, sym, true≢false}
+use Rattle.std.proofs.lemmas.Bool.{or_from}
+use Rattle.base_proofs.proofs.Bools.{or_first, or_second}
 use Rattle.base_number.specs.Numbers.{SpecNumber}
 use Rattle.base_token.specs.declared.place.Span.{Span}
 use Rattle.base_token.specs.Words.{own_text}
@@ -15,27 +17,15 @@ use Rattle.print_layout_spec.specs.Layout.{word, comma, in_parens, indented, ind
 pub record Fine (f : Laid) : Type 0 where
   pub so : is_refused f ≡ false
 
-neither : (a b : Bool) → a ≡ false → b ≡ false → (a || b) ≡ false
-neither false b e h = h
-neither true b e h = e
-
-not_first : (a b : Bool) → (a || b) ≡ false → a ≡ false
-not_first false b e = refl
-not_first true b e = e
-
-not_second : (a b : Bool) → (a || b) ≡ false → b ≡ false
-not_second false b e = e
-not_second true b e = absurd (true≢false e)
-
 infixr 35 ◌▸◌
 pub ◌▸◌ : {f g : Laid} → Fine f → Fine g → Fine (both f g)
-a ▸ b = record { so = neither _ _ a.so b.so }
+a ▸ b = record { so = or_from _ _ a.so b.so }
 
 pub first : {f g : Laid} → Fine (both f g) → Fine f
-first h = record { so = not_first _ _ h.so }
+first h = record { so = or_first _ _ h.so }
 
 pub second : {f g : Laid} → Fine (both f g) → Fine g
-second h = record { so = not_second _ _ h.so }
+second h = record { so = or_second _ _ h.so }
 
 -- a piece, texts that are together one token, and nothing
 pub ok : {x : Piece} → Fine (one x)

@@ -27,7 +27,7 @@ same_resolved xs ys p e = ap (λ (q : Page). q.out) (plain_resolved xs p ∙ (ap
 same_shortened : (xs ys : List Piece) (p : Page) → unmarked xs ≡ unmarked ys → (shortened xs p).out ≡ (shortened ys p).out
 same_shortened xs ys p e = ap (λ (q : Page). q.out) (plain_shortened xs p ∙ (ap (λ zs. shortened zs (record p { marks = None })) e ∙ sym (plain_shortened ys p)))
 
-written_alike : (look : Look) (t u : Tree) → Alike false (laid look Alone t) (laid look Alone u) → AreWrittenAlike look t u
+pub written_alike : (look : Look) (t u : Tree) → Alike false (laid look Alone t) (laid look Alone u) → AreWrittenAlike look t u
 written_alike look t u a = let e = same_pieces (laid look Alone t) (laid look Alone u) a in record {
   pieces_same = e;
   bytes_same = λ p. same_resolved (pieces look t) (pieces look u) p e;

@@ -1,7 +1,8 @@
 -- Literals without raw texts are written as with them, where those are not written.
-use Rattle.std.proofs.Common.{◌≡◌, ℕ, Bool, true, false, not, ◌&&◌, ◌||◌, if◌then◌else◌, List, [], Option, Some, None, encode_utf8_all, true≢false, refl, sym, ap}
+use Rattle.std.proofs.Common.{◌≡◌, ℕ, Bool, true, false, not, ◌&&◌, ◌||◌, if◌then◌else◌, List, [], Option, Some, None, encode_utf8_all, refl, sym, ap}
 use Rattle.std.specs.List.{list_all}
 use Rattle.std.specs.Str.{chars}
+use Rattle.base_proofs.proofs.Bools.{or_first, or_second}
 use Rattle.base_number.specs.Numbers.{SpecNumber}
 use Rattle.base_token.specs.declared.place.Span.{Span}
 use Rattle.print_spelling.specs.declared.style.Style.{Style}
@@ -18,14 +19,6 @@ taken b x y z e = rw e refl
 
 -- ---- strings
 
-none_first : (a b : Bool) → (a || b) ≡ false → a ≡ false
-none_first false b e = refl
-none_first true b e = e
-
-none_second : (a b : Bool) → (a || b) ≡ false → b ≡ false
-none_second false b e = e
-none_second true b e = absurd (true≢false e)
-
 quoted_alone : (escaped short other : Bool) (x y : List ℕ) → escaped ≡ false → short ≡ true → y ≡ (if escaped || (not short && other) then x else y)
 quoted_alone escaped short other x y e m = rw (e, m) refl
 
@@ -34,7 +27,7 @@ kept_bytes : (style : Style) (units raw : List ℕ) (b : Bool) → style.minify 
 kept_bytes style units raw true m e = refl
 kept_bytes style units raw false m e = ap (λ s. encode_utf8_all s)
     (quoted_alone (is_escaped_directive units (Some (chars raw))) style.minify (not style.ascii_only || list_all is_ascii (chars raw)) (chars raw) (quoted style units [])
-    (none_second (is_escaped_directive units (Some raw)) _ e) m)
+    (or_second (is_escaped_directive units (Some raw)) _ e) m)
 
 same_string : (style : Style) (raws : Bool) (units : List ℕ) (raw : Option (List ℕ)) → (raws ≡ false → style.minify ≡ true)
     → string_bytes style units (kept_string raws units raw) ≡ string_bytes style units raw
@@ -44,7 +37,7 @@ same_string style false units (Some raw) h = kept_bytes style units raw (asks_ra
 
 kept_directive : (units raw : List ℕ) (b : Bool) → asks_raw units (Some raw) ≡ b → is_escaped_directive units (if b then Some raw else None) ≡ is_escaped_directive units (Some raw)
 kept_directive units raw true e = refl
-kept_directive units raw false e = sym (none_first (is_escaped_directive units (Some raw)) _ e)
+kept_directive units raw false e = sym (or_first (is_escaped_directive units (Some raw)) _ e)
 
 same_directive : (raws : Bool) (units : List ℕ) (raw : Option (List ℕ)) → is_escaped_directive units (kept_string raws units raw) ≡ is_escaped_directive units raw
 same_directive true units raw = refl

@@ -1,5 +1,6 @@
 -- What a layout asks of trees is the same of a tree with or without places and raw texts.
-use Rattle.std.proofs.Common.{◌≡◌, ℕ, ◌+◌, Bool, true, false, not, ◌&&◌, ◌||◌, ◌==◌, if◌then◌else◌, Option, Some, None, is_some, refl, ap, ap₂}
+use Rattle.std.proofs.Common.{◌≡◌, ℕ, ◌+◌, Bool, true, false, not, ◌&&◌, ◌||◌, ◌==◌, Option, Some, None, is_some, refl, ap, ap₂}
+use Rattle.base_proofs.proofs.Bools.{if_same}
 use Rattle.base_token.specs.declared.place.Span.{Span}
 use Rattle.base_token.specs.Kinds.{bang_kind}
 use Rattle.tree_spec.specs.Places.{no_place, place_of}
@@ -7,9 +8,6 @@ use Rattle.tree_spec.specs.Tree.{Tree, Trees, none, more, absent, hole, list, se
 use Rattle.print_gaps.specs.Edges.{is_there, starts_with_word, first_starts_with_word, alone_starts_with_word, ends_with_word, last_ends_with_word, first_operand, is_plus, is_minus, is_decrement, is_postfix_decrement, is_not_of_decrement, starts_with_regexp, first_starts_with_regexp, gap_before, gap_after, gap_of_unary}
 use Rattle.print_layout_spec.specs.Layout.{is_empty, count, ends_with_hole, is_block, is_sequence, is_variables, is_bracketed_key, is_computed, is_bracketed_name, starts_bracketed, is_one_name, has_arguments, is_default, starts_with_default, is_named, has_named, has_default, is_namespace, is_no_namespace, has_namespace, has_other}
 use Rattle.print_layout_laws.specs.Bare.{kept_place, kept_spread, bare, bares}
-
-one_of : {b c x y u v : Bool} → b ≡ c → x ≡ u → y ≡ v → (if b then x else y) ≡ (if c then u else v)
-one_of e h k = rw (e, h, k) refl
 
 module _ (places raws : Bool) where
   pub same_is_there : (t : Tree) → is_there (bare places raws t) ≡ is_there t
@@ -155,7 +153,7 @@ module _ (places raws : Bool) where
     same_ends_with_word (expr_pat e) = same_ends_with_word e
     same_ends_with_word (var_decl span kind decls) = same_last_ends_with_word decls
     same_ends_with_word (using_decl span is_await decls) = same_last_ends_with_word decls
-    same_ends_with_word (var_declarator span name init) = one_of (same_is_there init) (same_ends_with_word init) (same_ends_with_word name)
+    same_ends_with_word (var_declarator span name init) = if_same (same_is_there init) (same_ends_with_word init) (same_ends_with_word name)
     same_ends_with_word _ = refl
 
     same_last_ends_with_word : (ts : Trees) → last_ends_with_word (bares places raws ts) ≡ last_ends_with_word ts

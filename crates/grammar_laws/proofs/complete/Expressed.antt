@@ -2,7 +2,7 @@
 use Rattle.std.proofs.Common.{◌≡◌, ℕ, ◌<◌, ◌⊎◌, inl, inr, max, Bool, true, false, not, ◌&&◌, ◌||◌, ◌==◌, eqb, List, Option, Some, None, refl, sym, ap, ◌∙◌, subst, ⊎_elim, true≢false, arith}
 use Rattle.std.proofs.lemmas.Bool.{ne_eqb, eq-eqb, and_left, and_right, and_from, or_left, or_from}
 use Rattle.base_token.specs.declared.place.Span.{Span}
-use Rattle.base_token.specs.Kinds.{dot_dot_dot_kind, left_paren_kind, right_paren_kind, left_brace_kind, colon_kind, hash_kind, str_kind, num_kind, big_int_kind, left_bracket_kind, mul_kind, function_kind, class_kind, extends_kind, async_kind, get_kind, set_kind}
+use Rattle.base_token.specs.Kinds.{dot_dot_dot_kind, left_paren_kind, right_paren_kind, left_brace_kind, colon_kind, hash_kind, mul_kind, function_kind, class_kind, extends_kind, async_kind, get_kind, set_kind}
 use Rattle.tree_spec.specs.Tree.{Tree, Trees, none, block_stmt, function, param, class, ident, absent, fn_expr, class_expr, method_prop, getter_prop, setter_prop, rest_pat}
 use Rattle.grammar_spec.specs.Tokens.Input.{Input, Code, TakesWord, kind, kind2, brk, lo, span, first_span, rest, is_word, no_name, barred, setting, in_body, turned_strict, with_in}
 use Rattle.grammar_spec.specs.Tokens.Operators.{starts_key}
@@ -12,16 +12,16 @@ use Rattle.grammar_spec.specs.Functions.{Star}
 use Rattle.grammar_spec.specs.Grammar.{Produces}
 use Rattle.grammar_spec.specs.Reader.Source.{State, Inner, is_name}
 use Rattle.grammar_spec.specs.Reader.Expressions.{prefix_by, keyword_by, word_by, async_by, function_expr_by, class_expr_by, prop_by, prop_rest, key_by, method_prop_by, getter_by, setter_by, setter_parameter, star, function_by, is_async_head, is_accessor}
-use Rattle.grammar_laws.proofs.complete_base.Yields.{lm, from, coded, Reads, Is, IsName, named, then_is, then_eat, then_word, then_name, then_past, onto, here, if_no, if_yes}
+use Rattle.grammar_laws.proofs.complete_base.Yields.{lm, from, coded, Reads, Is, named, then_is, then_eat, then_word, then_name, then_past, onto, here, if_no, if_yes, async_name}
 use Rattle.grammar_laws.proofs.complete_base.Trees.{by_cases, no_kind}
 use Rattle.grammar_laws.proofs.complete_rules.Prefixes.{named_word}
 use Rattle.grammar_laws.proofs.complete_rules.Lists.{is_method}
-use Rattle.grammar_laws.proofs.complete_rules.Objects.{begins_key, key_starts, OneWord}
+use Rattle.grammar_laws.proofs.complete_rules.Objects.{begins_key, key_starts, OneWord, key_opens}
 use Rattle.grammar_laws.proofs.complete_rules.Nested.{Nested}
 use Rattle.grammar_laws.proofs.complete_rules.Within.{item_in, Within, within}
 use Rattle.grammar_laws.proofs.complete_rules.Starts.{ident_is}
 use Rattle.grammar_laws.proofs.complete_rules.Functions.{key_found, function_found, function_expressed, star_found, setter_found}
-use Rattle.grammar_laws.proofs.complete_rules.Simple.{absent_is}
+use Rattle.grammar_laws.proofs.Shapes.{absent_is}
 
 module _ (inner : Inner Input) (c : Code) (lev : ℕ) (ts : Input) (k : List ℕ) (V : Tree × State Input → Type 0) (Q : Type 0) where
   at_function : kind ts ≡ function_kind → Reads (from ts k) (function_expr_by lm inner c (from ts k) false (from ts k)) V Q → Reads (from ts k) (prefix_by lm inner c lev (from ts k)) V Q
@@ -32,25 +32,10 @@ module _ (inner : Inner Input) (c : Code) (lev : ℕ) (ts : Input) (k : List ℕ
   unfolding prefix_by keyword_by
   at_class e y = rw e y
 
-  async_name : kind ts ≡ async_kind → barred c.context ts ≡ false → IsName c ts
-  async_name e b = (subst (λ (x : ℕ). is_word x ≡ true) (sym e) refl, subst (λ (x : ℕ). no_name c.context x ≡ false) (sym e) refl, b)
-
   at_async : kind ts ≡ async_kind → barred c.context ts ≡ false → kind (rest ts) ≡ function_kind → brk (rest ts) ≡ false → barred c.context (rest ts) ≡ false → Reads (from ts k) (function_expr_by lm inner c (from ts k) true (from (rest ts) k)) V Q → Reads (from ts k) (prefix_by lm inner c lev (from ts k)) V Q
   unfolding word_by async_by
-  at_async e b f n d y = named_word inner c lev ts k V Q (async_name e b) (if_yes (eqb (kind ts) async_kind) _ _ V Q (eq-eqb (kind ts) async_kind e)
+  at_async e b f n d y = named_word inner c lev ts k V Q (async_name c ts e b) (if_yes (eqb (kind ts) async_kind) _ _ V Q (eq-eqb (kind ts) async_kind e)
       (if_yes (((kind (rest ts) == function_kind) && not (brk (rest ts))) && not (barred c.context (rest ts))) _ _ V Q (and_from ((kind (rest ts) == function_kind) && not (brk (rest ts))) _ (and_from (kind (rest ts) == function_kind) _ (eq-eqb (kind (rest ts)) function_kind f) (ap not n)) (ap not d)) y))
-
--- a key starts as a member's
-key_opens : (k : ℕ) → begins_key k ≡ true → starts_key k ≡ true
-key_opens k h = widen (is_word k) (k == str_kind) (k == num_kind) (k == big_int_kind) (k == left_bracket_kind) (k == hash_kind) h
-  where
-    widen : (a b d e f g : Bool) → (a || (b || (d || (e || f)))) ≡ true → (a || (b || (d || (e || (f || g))))) ≡ true
-    widen true b d e f g h = refl
-    widen false true d e f g h = refl
-    widen false false true e f g h = refl
-    widen false false false true f g h = refl
-    widen false false false false true g h = refl
-    widen false false false false false g h = absurd (true≢false (sym h))
 
 param_rest : (s : Span) (a : Tree) → is_rest a ≡ false → is_rest (param s none a) ≡ false
 param_rest s (rest_pat t d a) h = h

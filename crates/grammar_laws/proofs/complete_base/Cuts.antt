@@ -1,11 +1,11 @@
 -- Every tree takes tokens, but a program, which may be empty.
-use Rattle.std.proofs.Common.{◌≡◌, ℕ, ◌+◌, ◌<◌, ◌≤◌, ◌⊎◌, inl, inr, Bool, true, false, ◌&&◌, ◌||◌, ◌==◌, eqb, leb, if◌then◌else◌, List, [], ◌∷◌, length, Option, Some, None, refl, sym, ap, ⊎_elim, true≢false, arith}
-use Rattle.std.proofs.lemmas.Bool.{eqb-true, leb-true, and_parts, or_cases}
+use Rattle.std.proofs.Common.{◌≡◌, ℕ, ◌+◌, ◌<◌, ◌≤◌, ◌⊎◌, inl, inr, Bool, true, false, ◌&&◌, ◌||◌, ◌==◌, eqb, if◌then◌else◌, List, [], ◌∷◌, length, Option, Some, None, refl, sym, ap, ⊎_elim, true≢false, arith}
+use Rattle.std.proofs.lemmas.Bool.{eqb-true, or_cases}
 use Rattle.base_token.specs.declared.place.Span.{Span}
 use Rattle.base_token.specs.Kinds.{accessor_kind, arrow_kind, hash_kind, dot_kind, dot_dot_dot_kind, left_paren_kind, left_bracket_kind, left_brace_kind, right_brace_kind, comma_kind, back_quote_kind, semicolon_kind, question_mark_kind, str_kind, num_kind, big_int_kind, regex_kind, mul_kind, this_kind, null_kind, true_kind, false_kind, await_kind, break_kind, catch_kind, continue_kind, debugger_kind, do_kind, for_kind, if_kind, return_kind, switch_kind, throw_kind, try_kind, while_kind, with_kind, new_kind, super_kind, class_kind, export_kind, import_kind, yield_kind, get_kind, set_kind, static_kind, using_kind, function_kind, target_kind, meta_kind, assign_kind, template_kind, colon_kind}
 use Rattle.tree_spec.specs.Tree.{Tree, Trees, none, more, script, es_module, import_decl, export_decl, named_export, export_default_decl, export_default_expr, export_all, import_named_specifier, import_default_specifier, import_star_as_specifier, export_namespace_specifier, export_named_specifier, block_stmt, empty_stmt, debugger_stmt, with_stmt, return_stmt, labeled_stmt, break_stmt, continue_stmt, if_stmt, switch_stmt, switch_case, throw_stmt, try_stmt, catch_clause, while_stmt, do_while_stmt, for_stmt, for_in_stmt, for_of_stmt, expr_stmt, class_decl, fn_decl, var_decl, using_decl, var_declarator, function, param, class, constructor, class_method, private_method, class_prop, private_prop, static_block, auto_accessor, ident_name, computed_prop_name, private_name, this_expr, array_lit, object_lit, fn_expr, unary_expr, update_expr, bin_expr, assign_expr, member_expr, super_prop_expr, cond_expr, call_expr, new_expr, seq_expr, ident, tpl, tpl_element, tagged_tpl, arrow_expr, class_expr, yield_expr, meta_prop_expr, await_expr, paren_expr, opt_chain_expr, opt_call, super, import, expr_or_spread, spread_element, key_value_prop, assign_prop, getter_prop, setter_prop, method_prop, str_lit, bool_lit, null_lit, number_lit, big_int_lit, regex_lit, binding_ident, array_pat, rest_pat, object_pat, assign_pat, key_value_pat_prop, assign_pat_prop, expr_pat, list, absent, plain_method}
 use Rattle.grammar_spec.specs.Tokens.Input.{PlacedToken, Input, Code, kind, rest, others, Takes, TakesWord, with_in, assigning, binding, in_list, turned_strict, in_field, alone, setting, by, without_in, in_arrow}
-use Rattle.grammar_spec.specs.Tokens.Operators.{is_assign_op, plain_end, source_end, exports_end, key_end}
+use Rattle.grammar_spec.specs.Tokens.Operators.{plain_end, source_end, exports_end, key_end}
 use Rattle.grammar_spec.specs.Tokens.Shape.{level, is_absent, is_hole, is_binding, is_bound_name, is_item_pat, is_key, is_private, is_item, is_use_strict, is_directive, is_star_import, is_default_import, is_star_export, is_named_import, is_default_case, is_param, is_declarator, is_string, is_element, is_prop, is_named_export, ends, field_end, function_parts, FunctionParts, count_of, declarators_end}
 use Rattle.grammar_spec.specs.Children.{Child, child, By, is_ident, Sorted, Listed, CommaThen, Commas, Items, Ends, AtEnd, Expr, is_module_item}
 use Rattle.grammar_spec.specs.Expressions.{TemplateSpans, ImportArguments, Bracketed, Dotted, Arguments, Optional, TemplateLiteral}
@@ -15,7 +15,7 @@ use Rattle.grammar_spec.specs.Functions.{Parameters, SetParameter, Members, Clos
 use Rattle.grammar_spec.specs.Modules.{ImportClause, AfterDefault, NamedImports, Source, ExportName, Specified, ExportList, Hashbang}
 use Rattle.grammar_spec.specs.Grammar.{Produces, children}
 use Rattle.grammar_laws.proofs.complete_base.Yields.{len, shorter}
-use Rattle.grammar_laws.proofs.complete_base.Trees.{by_cases, by_unary, by_update, takes, some_word, some_binary}
+use Rattle.grammar_laws.proofs.complete_base.Trees.{by_cases, by_unary, by_update, takes, some_word, some_binary, some_assign}
 
 -- ---- lengths
 
@@ -87,9 +87,6 @@ item_takes _ h = refl
 ident_least : (t : Tree) → is_ident t ≡ true → least t ≡ 1
 ident_least (ident s n) h = refl
 ident_least _ h = absurd (true≢false (sym h))
-
-assign_some : (op : ℕ) → is_assign_op op ≡ true → 1 ≤ op
-assign_some op h = omega (arith, leb-true 60 op (and_parts (leb 60 op) (leb op 75) h).0)
 
 var_some : (k : ℕ) → is_var_word k ≡ true → 1 ≤ k
 var_some k h = ⊎_elim (λ (e : eqb k 117 ≡ true). omega (arith, eqb-true k 117 e)) (λ h. ⊎_elim (λ (e : eqb k 118 ≡ true). omega (arith, eqb-true k 118 e)) (λ (e : eqb k 119 ≡ true). omega (arith, eqb-true k 119 e)) (or_cases (eqb k 118) (eqb k 119) h)) (or_cases (eqb k 117) _ h)
@@ -366,7 +363,7 @@ mutual
   cut (await_expr s a) c ts r h = omega (arith, takes await_kind ts h.0 h.2.0 (omega arith) h.2.3, cut a _ h.0 r h.3.1)
   cut (bin_expr s op a b) c ts r h = omega (arith, cut a _ ts h.0 h.4, takes op h.0 h.1 h.5.0 (some_binary c op h.2) h.5.3, cut b _ h.1 r h.6.1)
   cut (cond_expr s a b t) c ts r h = omega (arith, cut a _ ts h.0 h.4.1, takes question_mark_kind h.0 h.1 h.5.0 (omega arith) h.5.2, cut b _ h.1 h.2 h.6.1, passed h.2 h.3 h.7.2, cut t _ h.3 r h.8.1)
-  cut (assign_expr s op a b) c ts r h = omega (arith, cut a _ ts h.0 h.4, takes op h.0 h.1 h.5.0 (assign_some op h.2) h.5.2, cut b _ h.1 r h.6.1)
+  cut (assign_expr s op a b) c ts r h = omega (arith, cut a _ ts h.0 h.4, takes op h.0 h.1 h.5.0 (some_assign op h.2) h.5.2, cut b _ h.1 r h.6.1)
   cut (arrow_expr s ps (block_stmt b ss) i) c ts r h = omega (arith, arrow_cut i ps c ts h.0 (cuts ps) h.1, body_cut ss _ b h.0 r (cuts ss) h.2)
   cut (arrow_expr s ps e i) c ts r h = omega (arith, arrow_cut i ps c ts h.0 (cuts ps) h.1, cut e (assigning (in_arrow i c)) h.0 r h.3.1)
   cut (yield_expr s absent g) c ts r h = omega (arith, takes yield_kind ts r h.1.1.0 (omega arith) h.1.1.3)

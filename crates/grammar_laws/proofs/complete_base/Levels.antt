@@ -1,6 +1,7 @@
 -- Levels of operators and of trees, and the next token.
 use Rattle.std.proofs.Common.{◌≡◌, ℕ, ◌+◌, ◌<◌, ◌≤◌, ◌⊎◌, inl, inr, Bool, true, false, not, ◌&&◌, ◌||◌, ◌==◌, cond, eqb, leb, refl, sym, ap, ◌∙◌, subst, ⊎_elim, true≢false, arith}
 use Rattle.std.proofs.lemmas.Bool.{eqb-true, ne_eqb, eq-eqb, cases_Bool, cases_eq, leb-true, or_cases, or_right, or_from, and_parts, and_left, and_right, not-true, false_from_ne_true}
+use Rattle.base_proofs.proofs.Bools.{cond_second, cond_first}
 use Rattle.base_token.specs.Kinds.{nullish_coalescing_kind, logical_or_kind, logical_and_kind, bit_or_kind, bit_xor_kind, bit_and_kind, eq_eq_kind, not_eq_eq_kind, lt_kind, gt_eq_kind, left_shift_kind, zero_fill_right_shift_kind, add_kind, sub_kind, mul_kind, mod_kind, exp_kind, in_kind, instanceof_kind, comma_kind, question_mark_kind, regex_kind, left_paren_kind, left_bracket_kind, dot_kind, back_quote_kind, arrow_kind, function_kind}
 use Rattle.tree_spec.specs.Tree.{Tree, unary_expr, update_expr, await_expr, bin_expr, cond_expr, assign_expr, arrow_expr, yield_expr, seq_expr, member_expr, tagged_tpl, new_expr, absent}
 use Rattle.grammar_spec.specs.Tokens.Input.{Input, Code, kind, brk, is_word, always_reserved}
@@ -9,14 +10,6 @@ use Rattle.grammar_spec.specs.Tokens.Shape.{level, ends, fits_left, is_private}
 pub use Rattle.grammar_laws.specs.CompleteBase.Laws.{Asked, Follow, sober, arrowed, ends_operand, quits}
 
 -- ---- tests
-
-pub cond_no : {A : Type 0} (b : Bool) (x y z : A) → b ≡ false → y ≡ z → cond b x y ≡ z
-cond_no true x y z e h = absurd (true≢false e)
-cond_no false x y z e h = h
-
-pub cond_yes : {A : Type 0} (b : Bool) (x y z : A) → b ≡ true → x ≡ z → cond b x y ≡ z
-cond_yes true x y z e h = h
-cond_yes false x y z e h = absurd (true≢false (sym e))
 
 pick : (b : Bool) (x y : ℕ) (P : Type 0) → 1 ≤ cond b x y → (b ≡ true → P) → (1 ≤ y → P) → P
 pick true x y P h f g = f refl
@@ -50,7 +43,7 @@ binary_four k = levels_are k (λ n. 1 ≤ n → 4 ≤ n) (λ h. omega arith) (λ
 
 pub operated : (c : Code) (k : ℕ) → operates c k ≡ true → 1 ≤ binary_level k
 operated c k h = ⊎_elim (λ (e : k ≡ in_kind). subst (λ (n : ℕ). 1 ≤ binary_level n) (sym e) (omega arith))
-    (λ (n : k ≡ in_kind → ⊥). leb-true 1 (binary_level k) (sym (cond_no (eqb k in_kind) _ _ (leb 1 (binary_level k)) (ne_eqb k in_kind n) refl) ∙ h)) (cases_eq k in_kind)
+    (λ (n : k ≡ in_kind → ⊥). leb-true 1 (binary_level k) (sym (cond_second (eqb k in_kind) _ _ (leb 1 (binary_level k)) (ne_eqb k in_kind n) refl) ∙ h)) (cases_eq k in_kind)
 
 pub not_binary : (k n : ℕ) → 1 ≤ binary_level k → binary_level n ≡ 0 → eqb k n ≡ false
 not_binary k n h e = ne_eqb k n (λ q. let z : 1 ≤ binary_level n = subst (λ (k : ℕ). 1 ≤ binary_level k) q h in omega (arith, e))
@@ -60,16 +53,16 @@ not_assign k h = false_from_ne_true (is_assign_op k) (λ q. let y = and_parts (l
     binary_cases k ⊥ h (λ p q. omega (arith, a)) (λ e. omega (arith, b)) (λ e. omega (arith, b)))
 
 pub right_over : (k n : ℕ) → n ≤ binary_level k → n ≤ 14 → n < right_level k
-right_over k n h le = ⊎_elim (λ (e : k ≡ exp_kind). subst (λ (z : ℕ). n < z) (sym (cond_yes (eqb k exp_kind) 15 _ 15 (eq-eqb k exp_kind e) refl)) (omega arith))
-    (λ (x : k ≡ exp_kind → ⊥). subst (λ (z : ℕ). n < z) (sym (cond_no (eqb k exp_kind) 15 _ _ (ne_eqb k exp_kind x) refl))
-    (⊎_elim (λ (e : k ≡ nullish_coalescing_kind). let a : n ≤ 4 = subst (λ (k : ℕ). n ≤ binary_level k) e h in subst (λ (z : ℕ). n < z) (sym (cond_yes (eqb k nullish_coalescing_kind) 7 _ 7 (eq-eqb k nullish_coalescing_kind e) refl)) (omega arith))
-    (λ (y : k ≡ nullish_coalescing_kind → ⊥). subst (λ (z : ℕ). n < z) (sym (cond_no (eqb k nullish_coalescing_kind) 7 (binary_level k + 1) _ (ne_eqb k nullish_coalescing_kind y) refl)) (omega arith)) (cases_eq k nullish_coalescing_kind))) (cases_eq k exp_kind)
+right_over k n h le = ⊎_elim (λ (e : k ≡ exp_kind). subst (λ (z : ℕ). n < z) (sym (cond_first (eqb k exp_kind) 15 _ 15 (eq-eqb k exp_kind e) refl)) (omega arith))
+    (λ (x : k ≡ exp_kind → ⊥). subst (λ (z : ℕ). n < z) (sym (cond_second (eqb k exp_kind) 15 _ _ (ne_eqb k exp_kind x) refl))
+    (⊎_elim (λ (e : k ≡ nullish_coalescing_kind). let a : n ≤ 4 = subst (λ (k : ℕ). n ≤ binary_level k) e h in subst (λ (z : ℕ). n < z) (sym (cond_first (eqb k nullish_coalescing_kind) 7 _ 7 (eq-eqb k nullish_coalescing_kind e) refl)) (omega arith))
+    (λ (y : k ≡ nullish_coalescing_kind → ⊥). subst (λ (z : ℕ). n < z) (sym (cond_second (eqb k nullish_coalescing_kind) 7 (binary_level k + 1) _ (ne_eqb k nullish_coalescing_kind y) refl)) (omega arith)) (cases_eq k nullish_coalescing_kind))) (cases_eq k exp_kind)
 
 pub right_least : (k : ℕ) → binary_level k ≤ right_level k
 right_least k = ⊎_elim (λ (e : k ≡ exp_kind). subst (λ (k : ℕ). binary_level k ≤ right_level k) (sym e) (omega arith))
-    (λ (x : k ≡ exp_kind → ⊥). subst (λ (z : ℕ). binary_level k ≤ z) (sym (cond_no (eqb k exp_kind) 15 _ _ (ne_eqb k exp_kind x) refl))
+    (λ (x : k ≡ exp_kind → ⊥). subst (λ (z : ℕ). binary_level k ≤ z) (sym (cond_second (eqb k exp_kind) 15 _ _ (ne_eqb k exp_kind x) refl))
     (⊎_elim (λ (e : k ≡ nullish_coalescing_kind). subst (λ (k : ℕ). binary_level k ≤ cond (eqb k nullish_coalescing_kind) 7 (binary_level k + 1)) (sym e) (omega arith))
-    (λ (y : k ≡ nullish_coalescing_kind → ⊥). subst (λ (z : ℕ). binary_level k ≤ z) (sym (cond_no (eqb k nullish_coalescing_kind) 7 (binary_level k + 1) _ (ne_eqb k nullish_coalescing_kind y) refl)) (omega arith)) (cases_eq k nullish_coalescing_kind))) (cases_eq k exp_kind)
+    (λ (y : k ≡ nullish_coalescing_kind → ⊥). subst (λ (z : ℕ). binary_level k ≤ z) (sym (cond_second (eqb k nullish_coalescing_kind) 7 (binary_level k + 1) _ (ne_eqb k nullish_coalescing_kind y) refl)) (omega arith)) (cases_eq k nullish_coalescing_kind))) (cases_eq k exp_kind)
 
 -- ---- the level at which the last operand is read, 21 where there is none
 
@@ -122,8 +115,8 @@ ends_high (seq_expr s xs) h = absurd (omega arith)
 ends_high _ h = refl
 
 pub right_five : (k : ℕ) → 1 ≤ binary_level k → 5 ≤ right_level k
-right_five k h = let four = binary_four k h in ⊎_elim (λ (e : k ≡ exp_kind). subst (λ (z : ℕ). 5 ≤ z) (sym (cond_yes (eqb k exp_kind) 15 _ 15 (eq-eqb k exp_kind e) refl)) (omega arith))
-    (λ (x : k ≡ exp_kind → ⊥). subst (λ (z : ℕ). 5 ≤ z) (sym (cond_no (eqb k exp_kind) 15 _ _ (ne_eqb k exp_kind x) refl))
+right_five k h = let four = binary_four k h in ⊎_elim (λ (e : k ≡ exp_kind). subst (λ (z : ℕ). 5 ≤ z) (sym (cond_first (eqb k exp_kind) 15 _ 15 (eq-eqb k exp_kind e) refl)) (omega arith))
+    (λ (x : k ≡ exp_kind → ⊥). subst (λ (z : ℕ). 5 ≤ z) (sym (cond_second (eqb k exp_kind) 15 _ _ (ne_eqb k exp_kind x) refl))
     (each_of (eqb k nullish_coalescing_kind) 7 (binary_level k + 1) (λ n. 5 ≤ n) (omega arith) (omega arith))) (cases_eq k exp_kind)
 
 pub right_most : (k : ℕ) → right_level k ≤ 16
@@ -171,7 +164,7 @@ levels_but k Q a b c d e f g h i j l m = each_of _ _ _ Q a (each_of _ _ _ Q b (e
 
 fourteen : (op : ℕ) → (op ≡ exp_kind → ⊥) → binary_level op ≤ 14
 fourteen op x = levels_but op (λ n. n ≤ 14) (omega arith) (omega arith) (omega arith) (omega arith) (omega arith) (omega arith) (omega arith) (omega arith) (omega arith) (omega arith) (omega arith)
-    (subst (λ (n : ℕ). n ≤ 14) (sym (cond_no (eqb op exp_kind) 15 0 0 (ne_eqb op exp_kind x) refl)) (omega arith))
+    (subst (λ (n : ℕ). n ≤ 14) (sym (cond_second (eqb op exp_kind) 15 0 0 (ne_eqb op exp_kind x) refl)) (omega arith))
 
 -- the left operand of an operator binds as tightly
 pub fits : (op : ℕ) (a : Tree) → is_private a ≡ false → 1 ≤ binary_level op → fits_left op a ≡ true → (binary_level op ≤ level a) × (binary_level op < tail a)
@@ -194,15 +187,15 @@ fits op a p b h =
 -- ---- the next token
 
 pub goes_comma : (c : Code) (e : ℕ) (m : Input) → kind m ≡ comma_kind → goes_expr c e m ≡ 1
-goes_comma c e m k = cond_yes (eqb (kind m) comma_kind) 1 _ 1 (eq-eqb (kind m) comma_kind k) refl
+goes_comma c e m k = cond_first (eqb (kind m) comma_kind) 1 _ 1 (eq-eqb (kind m) comma_kind k) refl
 
 pub goes_binary : (c : Code) (e op : ℕ) (m : Input) → operates c op ≡ true → e ≤ 1 → kind m ≡ op → goes_expr c e m ≡ binary_level op
 goes_binary c e op m o le k = subst (λ (op : ℕ). goes_expr c e m ≡ binary_level op) k (here (subst (λ (op : ℕ). operates c op ≡ true) (sym k) o))
   where
     here : operates c (kind m) ≡ true → goes_expr c e m ≡ binary_level (kind m)
     here q = let b = operated c (kind m) q in
-        cond_no (eqb (kind m) comma_kind) _ _ _ (not_binary (kind m) comma_kind b refl) (cond_no (leb 2 e) _ _ _ (false_from_ne_true (leb 2 e) (λ z. let y : 2 ≤ e = leb-true 2 e z in omega arith)) (cond_no (is_assign_op (kind m)) _ _ _ (not_assign (kind m) b)
-        (cond_no (eqb (kind m) question_mark_kind) _ _ _ (not_binary (kind m) question_mark_kind b refl) (cond_yes (operates c (kind m)) _ _ _ q refl))))
+        cond_second (eqb (kind m) comma_kind) _ _ _ (not_binary (kind m) comma_kind b refl) (cond_second (leb 2 e) _ _ _ (false_from_ne_true (leb 2 e) (λ z. let y : 2 ≤ e = leb-true 2 e z in omega arith)) (cond_second (is_assign_op (kind m)) _ _ _ (not_assign (kind m) b)
+        (cond_second (eqb (kind m) question_mark_kind) _ _ _ (not_binary (kind m) question_mark_kind b refl) (cond_first (operates c (kind m)) _ _ _ q refl))))
 
 -- a bracket that closes, a colon: nothing goes on
 abbrev pub closes : ℕ → Bool
@@ -212,8 +205,8 @@ silent : (c : Code) (e k : ℕ) (m : Input) → kind m ≡ k → eqb k comma_kin
     → ((k == left_bracket_kind) || ((k == dot_kind) || (k == back_quote_kind))) ≡ false → goes_expr c e m ≡ 0
 silent c e k m q h0 h1 h2 h3 h4 h5 h6 h7 =
     let to : (P : ℕ → Bool) → P k ≡ false → P (kind m) ≡ false = λ P z. subst (λ (k : ℕ). P k ≡ false) (sym q) z in
-    cond_no _ _ _ _ (to (λ k. k == comma_kind) h0) (cond_any (leb 2 e) _ (cond_no _ _ _ _ (to is_assign_op h1) (cond_no _ _ _ _ (to (λ k. k == question_mark_kind) h2) (cond_no _ _ _ _ (to (operates c) h3) (cond_no _ _ _ _ (to (λ k. k == regex_kind) h4)
-    (cond_any (leb 1 e) _ (cond_no _ _ _ _ (to (between 20 21) h5) (cond_no _ _ _ _ (to (λ k. k == left_paren_kind) h6) (cond_no _ _ _ _ (to (λ k. (k == left_bracket_kind) || ((k == dot_kind) || (k == back_quote_kind))) h7) refl)))))))))
+    cond_second _ _ _ _ (to (λ k. k == comma_kind) h0) (cond_any (leb 2 e) _ (cond_second _ _ _ _ (to is_assign_op h1) (cond_second _ _ _ _ (to (λ k. k == question_mark_kind) h2) (cond_second _ _ _ _ (to (operates c) h3) (cond_second _ _ _ _ (to (λ k. k == regex_kind) h4)
+    (cond_any (leb 1 e) _ (cond_second _ _ _ _ (to (between 20 21) h5) (cond_second _ _ _ _ (to (λ k. k == left_paren_kind) h6) (cond_second _ _ _ _ (to (λ k. (k == left_bracket_kind) || ((k == dot_kind) || (k == back_quote_kind))) h7) refl)))))))))
   where
     cond_any : (b : Bool) (y : ℕ) → y ≡ 0 → cond b 0 y ≡ 0
     cond_any true y h = refl

@@ -1,6 +1,7 @@
 -- The trees that the law covers so far, their sizes, how deep they are read, how they start, and that they take tokens.
 use Rattle.std.proofs.Common.{◌≡◌, ℕ, suc, ◌+◌, ◌<◌, ◌≤◌, ◌⊎◌, inl, inr, max, Bool, true, false, not, ◌&&◌, ◌||◌, ◌==◌, eqb, leb, refl, sym, ap, ◌∙◌, subst, ⊎_elim, true≢false, arith}
 use Rattle.std.proofs.lemmas.Bool.{eqb-true, ne_eqb, cases_Bool, leb-true, or_cases, or_left, or_parts, and_from, and_parts}
+use Rattle.base_proofs.proofs.Bools.{and_false}
 use Rattle.base_token.specs.declared.place.Span.{Span}
 use Rattle.base_token.specs.Kinds.{left_brace_kind, back_quote_kind, super_kind, import_kind, yield_kind, hash_kind, bang_kind, tilde_kind, left_paren_kind, left_bracket_kind, plus_plus_kind, minus_minus_kind, str_kind, regex_kind, num_kind, big_int_kind, add_kind, sub_kind, typeof_kind, void_kind, delete_kind, this_kind, null_kind, true_kind, false_kind, await_kind, new_kind, in_kind, async_kind, function_kind, class_kind}
 use Rattle.tree_spec.specs.Tree.{Tree, Trees, none, more, this_expr, null_lit, bool_lit, ident, str_lit, number_lit, big_int_lit, regex_lit, paren_expr, array_lit, expr_or_spread, hole, unary_expr, update_expr, await_expr, bin_expr, cond_expr, seq_expr, member_expr, computed_prop_name, ident_name, private_name, call_expr, new_expr, list, absent, super, import, tpl, tagged_tpl, opt_chain_expr, opt_call, super_prop_expr, meta_prop_expr, yield_expr, object_lit, key_value_prop, assign_prop, spread_element, binding_ident, array_pat, object_pat, assign_pat, rest_pat, key_value_pat_prop, assign_pat_prop, expr_pat, assign_expr, arrow_expr, block_stmt, with_stmt, return_stmt, labeled_stmt, if_stmt, switch_stmt, switch_case, throw_stmt, try_stmt, catch_clause, while_stmt, do_while_stmt, for_stmt, for_in_stmt, for_of_stmt, expr_stmt, class_decl, fn_decl, var_decl, using_decl, var_declarator, function, param, class, constructor, class_method, private_method, class_prop, private_prop, static_block, auto_accessor, fn_expr, class_expr, method_prop, getter_prop, setter_prop, script, es_module, export_decl, import_decl, named_export, export_all, export_default_decl, export_default_expr}
@@ -352,10 +353,6 @@ member_least s o k c ts r h = omega (arith, h.2.0)
 pub name_begins : (c : Code) (ts : Input) → is_word (kind ts) ≡ true → no_name c.context (kind ts) ≡ false → begins (kind ts) ≡ true
 name_begins c ts w n = or_left (is_word (kind ts) && not (kind ts == in_kind)) _ (and_from (is_word (kind ts)) _ w (ap not (ne_eqb (kind ts) in_kind (λ q. true≢false (sym (ap always_reserved q) ∙ (or_parts (always_reserved (kind ts)) _ n).0)))))
 
-pub and_never : (b : Bool) → (b && false) ≡ false
-and_never true = refl
-and_never false = refl
-
 -- how an arrow starts
 arrow_starts : (i : Bool) (c : Code) (ps : Trees) (ts m : Input) → ArrowHead i c (children ps) ts m → begins (kind ts) ≡ true
 arrow_starts true c ps ts m h = at_kind begins (kind ts) async_kind h.2.0.0 refl
@@ -436,7 +433,7 @@ starts (assign_expr s op (object_pat q ps) b) c ts r g l h = at_kind begins (kin
 starts (assign_expr s op (member_expr q o k) b) c ts r g l h = starts (member_expr q o k) (assigning c) ts h.0 g.0 (member_least q o k (assigning c) ts h.0 h.4) h.4
 starts (assign_expr s op (super_prop_expr q o k) b) c ts r g l h = starts (super_prop_expr q o k) (assigning c) ts h.0 g.0 (omega arith) h.4
 starts (assign_expr s op (paren_expr q e) b) c ts r g l h = starts (paren_expr q e) (assigning c) ts h.0 g.0 (omega arith) h.4
-starts (assign_expr s op a b) c ts r g l h = absurd (true≢false (sym h.3 ∙ and_never (op == 60)))
+starts (assign_expr s op a b) c ts r g l h = absurd (true≢false (sym h.3 ∙ and_false (op == 60)))
 starts (binding_ident s i) c ts r g l h = absurd (omega arith)
 starts (array_pat s xs) c ts r g l h = absurd (omega arith)
 starts (object_pat s ps) c ts r g l h = absurd (omega arith)

@@ -1,8 +1,8 @@
 -- What a reading answers: one that meets a demand, or too deep; and that it leaves the starts noted before it as they were.
-use Rattle.std.proofs.Common.{◌≡◌, ℕ, zero, suc, ◌<◌, ◌≤◌, ◌⊎◌, inl, inr, Bool, true, false, not, ◌&&◌, cond, eqb, List, [], ◌∷◌, length, Result, Ok, Err, if◌then◌else◌, refl, sym, ap, ◌∙◌, subst, ⊎_elim, true≢false, arith}
-use Rattle.std.proofs.lemmas.Bool.{eqb-true, ne_eqb, eq-eqb, or_cases, lt-ltb}
+use Rattle.std.proofs.Common.{◌≡◌, ℕ, zero, suc, ◌<◌, ◌≤◌, ◌⊎◌, inl, inr, Bool, true, false, not, cond, eqb, List, [], ◌∷◌, length, Result, Ok, Err, if◌then◌else◌, refl, sym, ap, ◌∙◌, subst, ⊎_elim, true≢false, arith}
+use Rattle.std.proofs.lemmas.Bool.{eqb-true, ne_eqb, eq-eqb, or_cases, lt-ltb, and_from}
 use Rattle.base_token.specs.declared.place.Span.{Span}
-use Rattle.base_token.specs.Kinds.{template_kind}
+use Rattle.base_token.specs.Kinds.{template_kind, async_kind}
 use Rattle.grammar_spec.specs.Tokens.Input.{PlacedToken, Input, Code, span, first_span, kind, kind_of, text, rest, is_word, no_name, barred, lo, lo_of, hi_of, others}
 use Rattle.grammar_spec.specs.Reader.Cover.{has}
 pub use Rattle.grammar_laws.specs.CompleteBase.Laws.{coded, InOrder}
@@ -195,15 +195,11 @@ pub then_word : {A : Type 0} (c : Code) (k : ℕ) (ts m : Input) (l : List ℕ) 
 unfolding eat_word
 then_word c k ts m l f W Q e b q h = rw (eq-eqb (kind ts) k e, b) (onto ts m l f W Q q h)
 
-pub both : (a b : Bool) → a ≡ true → b ≡ true → (a && b) ≡ true
-both true b e h = h
-both false b e h = e
-
 abbrev pub IsName : Code → Input → Type 0
 IsName c ts = (is_word (kind ts) ≡ true) × (no_name c.context (kind ts) ≡ false) × (barred c.context ts ≡ false)
 
 pub named : (c : Code) (ts : Input) (l : List ℕ) → IsName c ts → is_name lm c (from ts l) ≡ true
-named c ts l h = both (is_word (kind ts)) _ h.0 (both (not (no_name c.context (kind ts))) (not (barred c.context ts)) (ap not h.1) (ap not h.2))
+named c ts l h = and_from (is_word (kind ts)) _ h.0 (and_from (not (no_name c.context (kind ts))) (not (barred c.context ts)) (ap not h.1) (ap not h.2))
 
 pub then_name : {A : Type 0} (c : Code) (ts m : Input) (n : List ℕ) (l : List ℕ) (f : List ℕ × State Input → Result (A × State Input) Fault) (W : A × State Input → Type 0) (Q : Type 0) → IsName c ts → text ts ≡ n → rest ts ≡ m → Reads (from m l) (f (n, from m l)) W Q
     → Reads (from ts l) (name lm c (from ts l) >>= f) W Q
@@ -327,3 +323,7 @@ took ts h = took_of ts.places h
 
 pub shorter : (ts r : Input) → (kind ts ≡ 0 → ⊥) → rest ts ≡ r → len r < len ts
 shorter ts r h e = omega (arith, took ts h, ap (λ (z : Input). len z) e)
+
+-- after `async`
+pub async_name : (c : Code) (ts : Input) → kind ts ≡ async_kind → barred c.context ts ≡ false → IsName c ts
+async_name c ts e b = (subst (λ (x : ℕ). is_word x ≡ true) (sym e) refl, subst (λ (x : ℕ). no_name c.context x ≡ false) (sym e) refl, b)

@@ -1,9 +1,11 @@
 -- What the readers of arrows answer: their parameters are read as a name, or as the elements of a parenthesis that are refined (ECMA-262, 15.3, 15.9).
-use Rattle.std.proofs.Common.{◌≡◌, ℕ, ◌≤◌, inl, inr, Bool, true, false, not, ◌&&◌, ◌||◌, ◌==◌, cond, eqb, leb, List, [], ◌∷◌, Result, Ok, refl, sym, ap, ◌∙◌, subst, ⊎_elim, true≢false}
+use Rattle.std.proofs.Common.{◌≡◌, ℕ, ◌≤◌, inl, inr, Bool, true, false, not, ◌&&◌, ◌==◌, cond, eqb, leb, List, [], ◌∷◌, Result, Ok, refl, sym, ap, ◌∙◌, subst, ⊎_elim, true≢false}
 use Rattle.std.proofs.lemmas.Bool.{ne_eqb, eq-eqb, cases_eq, eqb-true, le-leb, and_parts, or_parts, and_from, and_left, or_left}
+use Rattle.base_proofs.proofs.Bools.{and_second}
 use Rattle.base_token.specs.declared.place.Span.{Span}
 use Rattle.base_token.specs.Kinds.{arrow_kind, async_kind, function_kind, left_paren_kind, right_paren_kind, left_brace_kind}
 use Rattle.tree_spec.specs.Tree.{Tree, Trees, none, more, pack, unpack, ident, arrow_expr, binding_ident, array_pat, object_pat, assign_pat, rest_pat, key_value_pat_prop, assign_pat_prop}
+use Rattle.tree_spec.proofs.PackLemmas.{unpack_pack, pack_unpack}
 use Rattle.grammar_spec.specs.Tokens.Input.{Input, Code, kind, kind2, brk, brk2, lo, text, rest, span, first_span, is_word, no_name, barred, always_reserved, with_in, in_arrow, in_list}
 use Rattle.grammar_spec.specs.Tokens.Operators.{assignment_level}
 use Rattle.grammar_spec.specs.Tokens.Shape.{is_binding, is_place, is_item_pat, is_pattern_prop, is_hole}
@@ -14,12 +16,12 @@ use Rattle.grammar_spec.specs.Grammar.{Produces, children}
 use Rattle.grammar_spec.specs.Reader.Source.{Fault, ◌>>=◌, placed, bound, State, Inner, name}
 use Rattle.grammar_spec.specs.Reader.Cover.{binds_names, all_bind}
 use Rattle.grammar_spec.specs.Reader.Expressions.{Elements, elements_by, arrow_by, ident_end, word_by, async_by, async_group, group_by, group_end, params_of, prefix_by, arrows_at, heads_params, is_read, function_expr_by}
-use Rattle.grammar_laws.proofs.complete_base.Yields.{lm, from, coded, first_at, IsName, named, Reads, Is, then_past, then_past_reads, then_name, after_one, onto, here, if_no, if_yes, reads_deep, reads_map}
+use Rattle.grammar_laws.proofs.complete_base.Yields.{lm, from, coded, first_at, IsName, named, Reads, Is, then_past, then_past_reads, then_name, after_one, onto, here, if_no, if_yes, reads_deep, reads_map, async_name}
 use Rattle.grammar_laws.proofs.complete_base.Trees.{by_cases}
 use Rattle.grammar_laws.proofs.complete_base.Levels.{arrowed}
 use Rattle.grammar_laws.proofs.complete_rules.Prefixes.{named_word}
-use Rattle.grammar_laws.proofs.complete_rules.Lists.{pack_unpack, hole_is}
 use Rattle.grammar_laws.proofs.complete_rules.Covers.{Covered_list}
+use Rattle.grammar_laws.proofs.Shapes.{place_binds, hole_is}
 
 -- ---- patterns that bind are patterns that assign, and have names alone
 
@@ -33,13 +35,6 @@ is_loose (key_value_pat_prop s k a) = true
 is_loose (assign_pat_prop s k e) = true
 is_loose _ = false
 
-binding_of : (t : Tree) → is_place true t ≡ true → is_binding t ≡ true
-binding_of t h = or_false (is_binding t) h
-  where
-    or_false : (b : Bool) → (b || false) ≡ true → b ≡ true
-    or_false true h = h
-    or_false false h = h
-
 binding_loose : (t : Tree) → is_binding t ≡ true → is_loose t ≡ true
 binding_loose (binding_ident s i) h = refl
 binding_loose (array_pat s i) h = refl
@@ -47,10 +42,10 @@ binding_loose (object_pat s i) h = refl
 binding_loose _ h = absurd (true≢false (sym h))
 
 place_loose : (t : Tree) → is_place true t ≡ true → is_loose t ≡ true
-place_loose t h = binding_loose t (binding_of t h)
+place_loose t h = binding_loose t (place_binds t h)
 
 place_false : (t : Tree) → is_place true t ≡ true → is_place false t ≡ true
-place_false t h = or_left (is_binding t) _ (binding_of t h)
+place_false t h = or_left (is_binding t) _ (place_binds t h)
 
 item_loose : (t : Tree) → is_item_pat true t ≡ true → is_loose t ≡ true
 item_loose (assign_pat s a e) h = refl
@@ -104,10 +99,6 @@ mutual
 hole_names : (x : Tree) → is_hole x ≡ true → binds_names x ≡ true
 hole_names x e = ap binds_names (hole_is x e)
 
-and_second : (a b : Bool) → (a && b) ≡ true → b ≡ true
-and_second true b h = h
-and_second false b h = absurd (true≢false (sym h))
-
 empty_names : (xs : Trees) → IsEmpty (children xs) → all_bind xs ≡ true
 empty_names none h = refl
 empty_names (more x xs) h = absurd h
@@ -143,10 +134,6 @@ params_names p c none ts r h = refl
 params_names p c (more x xs) ts r k = and_from (binds_names x) _ (bound_names x (coded p (with_in c)) ts k.0 (item_loose x k.1.0) k.1.1) (⊎_elim (λ j. params_names p c xs j.1 r j.3) (λ j. empty_names xs j.0) k.2)
 
 -- ---- reading
-
-unpack_packed : (xs : List Tree) → unpack (pack xs) ≡ xs
-unpack_packed [] = refl
-unpack_packed (x ∷ xs) = ap (λ ys. x ∷ ys) (unpack_packed xs)
 
 -- an arrow's body, and what it is read as
 pub record Body_read (inner : Inner Input) (c : Code) (i : Bool) (e : Tree) (m n r : Input) (P : Type 0) : Type 0 where
@@ -210,7 +197,7 @@ module _ (inner : Inner Input) (c : Code) (lev : ℕ) (low : lev ≤ assignment_
   -- parameters in parentheses
   params_read : (ps : Trees) (o : Input) (y : Elements × State Input) → Covered_list false (unpack ps) o y → all_bind ps ≡ true → params_of lm inner y.1.commas y.0 ≡ Ok (unpack ps)
   unfolding params_of
-  params_read ps o y v b = rw (v.comma, v.rows.so true (subst (λ ys. all_bind ys ≡ true) (sym (pack_unpack ps)) b) y.1.commas (λ n q. refl)) (ap Ok (unpack_packed (unpack ps)))
+  params_read ps o y v b = rw (v.comma, v.rows.so true (subst (λ ys. all_bind ys ≡ true) (sym (pack_unpack ps)) b) y.1.commas (λ n q. refl)) (ap Ok (unpack_pack (unpack ps)))
 
   heads : (ps : Trees) (o : Input) (y : Elements × State Input) → Covered_list false (unpack ps) o y → all_bind ps ≡ true → arrowed o ≡ true → heads_params lm inner lev y.0 y.1 ≡ true
   heads ps o y v b a = and_from (arrows_at lm inner lev y.1) _ (and_from (arrowed y.1.source) _ (subst (λ (x : Input). arrowed x ≡ true) (sym v.source) a) (le-leb lev assignment_level low)) (ap (λ x. is_read x) (params_read ps o y v b))
@@ -226,15 +213,11 @@ module _ (inner : Inner Input) (c : Code) (lev : ℕ) (low : lev ≤ assignment_
   arrow_paren ps s e m o n r P R {Q = Q} g q y i b w f p = rw g (then_past_reads ts m k (elements_by lm inner (with_in c) false right_paren_kind) _ (Covered_list false (unpack ps) o) R _ Q q y i
       (λ u v. if_yes (heads_params lm inner lev u.0 u.1) _ _ _ _ (heads ps o u v b w.arrow) (after_params false ps s e o n r P u v b w f p)))
 
-  -- after `async`
-  async_name : kind ts ≡ async_kind → barred c.context ts ≡ false → IsName c ts
-  async_name e b = (subst (λ (x : ℕ). is_word x ≡ true) (sym e) refl, subst (λ (x : ℕ). no_name c.context x ≡ false) (sym e) refl, b)
-
   pub async_paren : (ps : Trees) (s : Span) (e : Tree) (m l o n r : Input) (P R : Type 0) {Q : Type 0} → kind ts ≡ async_kind → barred c.context ts ≡ false → rest ts ≡ m → brk m ≡ false → kind m ≡ left_paren_kind → rest m ≡ l
       → Reads (from l k) (elements_by lm inner (with_in c) false right_paren_kind (from l k)) (Covered_list false (unpack ps) o) R → (R → Q) → all_bind ps ≡ true → Body_read inner c true e o n r P → (P → Q) → s ≡ span (lo ts) r.last
       → Reads (from ts k) (prefix_by lm inner c lev (from ts k)) (Is (arrow_expr s ps e true) r) Q
   unfolding word_by async_by async_group
-  async_paren ps s e m l o n r P R {Q = Q} a ba q nb g t y i b w f p = named_word inner c lev ts k (Is (arrow_expr s ps e true) r) Q (async_name a ba) (if_yes (eqb (kind ts) async_kind) _ _ _ _ (eq-eqb (kind ts) async_kind a)
+  async_paren ps s e m l o n r P R {Q = Q} a ba q nb g t y i b w f p = named_word inner c lev ts k (Is (arrow_expr s ps e true) r) Q (async_name c ts a ba) (if_yes (eqb (kind ts) async_kind) _ _ _ _ (eq-eqb (kind ts) async_kind a)
       (if_no (((kind (rest ts) == function_kind) && not (brk (rest ts))) && not (barred c.context (rest ts))) _ _ _ _ (and_left _ _ (and_left (kind (rest ts) == function_kind) _ (no function_kind refl)))
       (if_no ((is_word (kind (rest ts)) && (not (no_name c.context (kind (rest ts))) && not (barred c.context (rest ts)))) && ((not (brk (rest ts)) && (kind2 (rest ts) == arrow_kind) && not (brk2 (rest ts))) && leb lev assignment_level)) _ _ _ _
       (and_left _ _ (and_left (is_word (kind (rest ts))) _ (subst (λ (u : ℕ). is_word u ≡ false) (sym at) refl)))
@@ -262,7 +245,7 @@ module _ (inner : Inner Input) (c : Code) (lev : ℕ) (low : lev ≤ assignment_
   pub async_bare : (q : Span) (x : List ℕ) (s : Span) (e : Tree) (m o n r : Input) (P : Type 0) {Q : Type 0} → kind ts ≡ async_kind → barred c.context ts ≡ false → rest ts ≡ m → brk m ≡ false → IsName c m → text m ≡ x → rest m ≡ o → q ≡ span (lo m) o.last → Body_read inner c true e o n r P → (P → Q) → s ≡ span (lo ts) r.last
       → Reads (from ts k) (prefix_by lm inner c lev (from ts k)) (Is (arrow_expr s (more (binding_ident q (ident q x)) none) e true) r) Q
   unfolding word_by async_by
-  async_bare q x s e m o n r P {Q = Q} a ba t nb is tx u sp w f p = named_word inner c lev ts k (Is (arrow_expr s (more (binding_ident q (ident q x)) none) e true) r) Q (async_name a ba) (if_yes (eqb (kind ts) async_kind) _ _ _ _ (eq-eqb (kind ts) async_kind a)
+  async_bare q x s e m o n r P {Q = Q} a ba t nb is tx u sp w f p = named_word inner c lev ts k (Is (arrow_expr s (more (binding_ident q (ident q x)) none) e true) r) Q (async_name c ts a ba) (if_yes (eqb (kind ts) async_kind) _ _ _ _ (eq-eqb (kind ts) async_kind a)
       (onto_all (if_no (((kind m == function_kind) && not (brk m)) && not (barred c.context m)) _ _ _ _ (and_left _ _ (and_left (kind m == function_kind) _ (ne_eqb (kind m) function_kind (λ i. true≢false (sym (ap always_reserved i) ∙ (or_parts (always_reserved (kind m)) _ is.1).0)))))
       (if_yes ((is_word (kind m) && (not (no_name c.context (kind m)) && not (barred c.context m))) && ((not (brk m) && (kind2 m == arrow_kind) && not (brk2 m)) && leb lev assignment_level)) _ _ _ _
       (and_from _ _ (named c m k is) (and_from _ _ (all (not (brk m)) (kind2 m == arrow_kind) (not (brk2 m)) (ap not nb) two three) (le-leb lev assignment_level low)))

@@ -17,7 +17,9 @@ use Rattle.grammar_laws.proofs.complete_base.Cuts.{cut}
 use Rattle.grammar_laws.proofs.complete_rules.Nested.{Nested, leaves, follows}
 use Rattle.grammar_laws.proofs.complete_rules.Within.{is_if, Within, within}
 use Rattle.grammar_laws.proofs.complete_rules.Starts.{opening, level_opener, no_open, ident_is, may_opens, name_may}
-use Rattle.grammar_laws.proofs.complete_rules.Simple.{absent_is, follows_at, parens_found, either_found}
+use Rattle.grammar_laws.proofs.complete_rules.Simple.{follows_at, parens_found, either_found}
+use Rattle.grammar_laws.proofs.Shapes.{chained_snoc, absent_is}
+use Rattle.grammar_laws.proofs.complete_base.Levels.{from_no, from_yes}
 
 -- ---- what is no `if` doesn't start as one
 
@@ -61,22 +63,9 @@ no_if _ false c ts r i n h = absurd (true≢false (sym i))
 
 -- ---- chains
 
-pub chained_snoc : (hi : ℕ) (bs : List Branch) (b : Branch) (t : Tree) → chained hi (bs ++ b ∷ []) t ≡ chained hi bs (if_stmt (span b.start hi) b.test b.consequent t)
-chained_snoc hi [] b t = refl
-chained_snoc hi (x ∷ bs) b t = ap (λ (y : Tree). if_stmt (span x.start hi) x.test x.consequent y) (chained_snoc hi bs b t)
-
 -- the chain makes this tree, and these tokens are the rest
 abbrev Makes : Tree → Input → Chain × State Input → Type 0
 Makes t r x = (chained r.last x.0.branches x.0.last ≡ t) × (x.1.source ≡ r)
-
--- of two, by a test
-first_leaves : (b x y : Bool) → b ≡ true → cond b x y ≡ true → x ≡ true
-first_leaves true x y e h = h
-first_leaves false x y e h = absurd (true≢false (sym e))
-
-second_leaves : (b x y : Bool) → b ≡ false → cond b x y ≡ true → y ≡ true
-second_leaves true x y e h = absurd (true≢false e)
-second_leaves false x y e h = h
 
 module _ (z : Nested) (p : Bool) where
   abbrev chain : List Branch → Code → Tree → Chain
@@ -124,8 +113,8 @@ module _ (z : Nested) (p : Bool) where
       (if_loop q f d b (bs ++ branch o e a ∷ []) (alone y) h.6.0 r l n g.2 h.6.2.1 u (omega (arith, le))))
   if_loop s e a b bs y o r j n g h u le =
       loop_end (if_step lm z.inner) (chain bs y absent) (chain (bs ++ branch o e a ∷ []) y b) o r j (z.depth < n) _ _
-      (branch_read bs y e a o h.0 h.1 h.2 j _ _ g.0 g.1 h.3 h.4 h.5 (by_cases (is_absent b) ((kind h.2 ≡ else_kind → ⊥) × (h.2 ≡ r)) ((x : Input) × TakesWord (coded p y) else_kind h.2 x × SubOrFunction (coded p y) (child b (λ y. Produces b y)) x r) (leaves y.context a h.2 ≡ true) h.6 (λ c x. subst (λ (d : Input). leaves y.context a d ≡ true) (sym x.1) (first_leaves (is_absent b) (leaves y.context a r) (leaves y.context b r) c u)) (λ c x. follows y.context a h.2 (follows_at h.2 else_kind x.1.0 refl))) (λ v. omega (arith, le)) (λ v. omega (arith, le))
-      (by_cases (is_absent b) ((kind h.2 ≡ else_kind → ⊥) × (h.2 ≡ r)) ((x : Input) × TakesWord (coded p y) else_kind h.2 x × SubOrFunction (coded p y) (child b (λ y. Produces b y)) x r) (On bs y e a o h.2 (Is (finished (chain (bs ++ branch o e a ∷ []) y b)) r) (z.depth < n)) h.6 (λ c x. no_else bs y e a b o h.2 r (z.depth < n) c x.0 x.1) (λ c x. else_other bs y e a b o h.2 x.0 r (z.depth < n) g.2 x.1 x.2 refl (second_leaves (is_absent b) (leaves y.context a r) (leaves y.context b r) c u) (λ v. omega (arith, le))))) (λ v. v)
+      (branch_read bs y e a o h.0 h.1 h.2 j _ _ g.0 g.1 h.3 h.4 h.5 (by_cases (is_absent b) ((kind h.2 ≡ else_kind → ⊥) × (h.2 ≡ r)) ((x : Input) × TakesWord (coded p y) else_kind h.2 x × SubOrFunction (coded p y) (child b (λ y. Produces b y)) x r) (leaves y.context a h.2 ≡ true) h.6 (λ c x. subst (λ (d : Input). leaves y.context a d ≡ true) (sym x.1) (from_yes (is_absent b) (leaves y.context a r) (leaves y.context b r) c u)) (λ c x. follows y.context a h.2 (follows_at h.2 else_kind x.1.0 refl))) (λ v. omega (arith, le)) (λ v. omega (arith, le))
+      (by_cases (is_absent b) ((kind h.2 ≡ else_kind → ⊥) × (h.2 ≡ r)) ((x : Input) × TakesWord (coded p y) else_kind h.2 x × SubOrFunction (coded p y) (child b (λ y. Produces b y)) x r) (On bs y e a o h.2 (Is (finished (chain (bs ++ branch o e a ∷ []) y b)) r) (z.depth < n)) h.6 (λ c x. no_else bs y e a b o h.2 r (z.depth < n) c x.0 x.1) (λ c x. else_other bs y e a b o h.2 x.0 r (z.depth < n) g.2 x.1 x.2 refl (from_no (is_absent b) (leaves y.context a r) (leaves y.context b r) c u) (λ v. omega (arith, le))))) (λ v. v)
       (λ l. (made bs s e a b o r h.7, refl))
 
   pub if_found : (c : Code) (ts : Input) (k : List ℕ) (r : Input) (s : Span) (e a b : Tree) → Within z.Covered (if_stmt s e a b) → Produces (if_stmt s e a b) (coded p c) ts r → leaves c.context (if_stmt s e a b) r ≡ true → Reads (from ts k) (if_by lm z.inner c (from ts k)) (Is (if_stmt s e a b) r) (z.depth < within z.reach (if_stmt s e a b))

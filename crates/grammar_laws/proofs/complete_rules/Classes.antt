@@ -2,8 +2,9 @@
 use Rattle.std.proofs.Common.{◌≡◌, ℕ, ◌<◌, ◌≤◌, ◌⊎◌, inl, inr, max, Bool, true, false, not, ◌&&◌, ◌||◌, ◌==◌, cond, eqb, List, [], ◌∷◌, ◌++◌, Option, Some, None, Ok, refl, sym, ap, ◌∙◌, subst, ⊎_elim, true≢false, append_assoc, append-nil, if◌then◌else◌, arith}
 use Rattle.std.proofs.lemmas.Bool.{eqb-true, ne_eqb, eq-eqb, cases_Bool, or_left, or_right, or_from, or_cases, or_parts, and_left, and_right, and_parts, and_from, not-true}
 use Rattle.base_token.specs.declared.place.Span.{Span}
-use Rattle.base_token.specs.Kinds.{end_kind, left_paren_kind, right_paren_kind, left_brace_kind, right_brace_kind, semicolon_kind, hash_kind, str_kind, num_kind, big_int_kind, left_bracket_kind, mul_kind, assign_kind, extends_kind, accessor_kind, async_kind, get_kind, set_kind, static_kind}
+use Rattle.base_token.specs.Kinds.{end_kind, left_paren_kind, right_paren_kind, left_brace_kind, right_brace_kind, semicolon_kind, mul_kind, assign_kind, extends_kind, accessor_kind, async_kind, get_kind, set_kind, static_kind}
 use Rattle.tree_spec.specs.Tree.{Tree, Trees, none, more, pack, unpack, plain_method, block_stmt, empty_stmt, function, class, constructor, class_method, private_method, class_prop, private_prop, static_block, auto_accessor, private_name, ident_name, str_lit, script, es_module, expr_pat, absent}
+use Rattle.tree_spec.proofs.PackLemmas.{pack_unpack}
 use Rattle.grammar_spec.specs.Tokens.Input.{Input, Code, kind, kind2, brk, brk2, lo, span, rest, is_word, has_in, setting, in_body, in_field, in_static, TakesWord}
 use Rattle.grammar_spec.specs.Tokens.Operators.{assignment_level, new_level, starts_key, goes_expr, goes_on, key_end}
 use Rattle.grammar_spec.specs.Tokens.Shape.{ends, is_absent, is_key, is_private, is_member, constructs, field_end, class_span, count_of}
@@ -16,28 +17,17 @@ use Rattle.grammar_spec.specs.Reader.Statements.{class_tail_by, members_by, memb
 use Rattle.grammar_laws.proofs.complete_base.Yields.{lm, from, len, coded, first_at, Reads, Is, then_is, then_eat, then_word, then_past, onto, here, past_here, if_no, if_yes, Loops, loop_on, loop_end, looped}
 use Rattle.grammar_laws.proofs.complete_base.Levels.{Follow, Asked, sober, sober_by, ends_high}
 use Rattle.grammar_laws.proofs.complete_base.Trees.{by_cases, no_kind}
-use Rattle.grammar_laws.proofs.complete_rules.Lists.{pack_unpack, two_asked}
-use Rattle.grammar_laws.proofs.complete_rules.Objects.{begins_key, key_starts, OneWord}
+use Rattle.grammar_laws.proofs.complete_rules.Lists.{two_asked}
+use Rattle.grammar_laws.proofs.complete_rules.Objects.{key_starts, OneWord, key_opens}
 use Rattle.grammar_laws.proofs.complete_rules.Nested.{Nested}
 use Rattle.grammar_laws.proofs.complete_rules.Within.{Each, most, Within, Withins, within, withins}
 use Rattle.grammar_laws.proofs.complete_rules.Follows.{halted, ends_two, end_follows, then_end, built, lifted}
 use Rattle.grammar_laws.proofs.complete_base.Cuts.{cut, least}
 use Rattle.grammar_laws.proofs.complete_rules.Functions.{any_key_found, setter_found, function_found, star_found, empty_none}
-use Rattle.grammar_laws.proofs.complete_rules.Simple.{absent_is}
 use Rattle.grammar_laws.proofs.complete_rules.StatementLists.{rest_found}
+use Rattle.grammar_laws.proofs.Shapes.{absent_is}
 
 -- ---- keys, and what follows them
-
-key_opens : (k : ℕ) → begins_key k ≡ true → starts_key k ≡ true
-key_opens k h = widen (is_word k) (k == str_kind) (k == num_kind) (k == big_int_kind) (k == left_bracket_kind) (k == hash_kind) h
-  where
-    widen : (a b d e f g : Bool) → (a || (b || (d || (e || f)))) ≡ true → (a || (b || (d || (e || (f || g))))) ≡ true
-    widen true b d e f g h = refl
-    widen false true d e f g h = refl
-    widen false false true e f g h = refl
-    widen false false false true f g h = refl
-    widen false false false false true g h = refl
-    widen false false false false false g h = absurd (true≢false (sym h))
 
 -- a key of a class: how it starts, and that a word is the whole of it
 any_key_starts : (x : Tree) (c : Code) (ts m : Input) → (is_key x || is_private x) ≡ true → Produces x c ts m → (starts_key (kind ts) ≡ true) × OneWord ts m

@@ -1,9 +1,11 @@
 -- What a tree produces is read: the tree comes out of a prefix, or the loop goes on to it.
 use Rattle.std.proofs.Common.{◌≡◌, ℕ, zero, suc, ◌+◌, ◌<◌, ◌≤◌, ◌⊎◌, inl, inr, max, Bool, true, false, not, ◌&&◌, ◌||◌, ◌==◌, eqb, leb, ltb, List, [], ◌∷◌, ◌++◌, Option, Some, refl, sym, ap, ◌∙◌, subst, ⊎_elim, true≢false, append_assoc, arith, cond, Result, Ok}
 use Rattle.std.proofs.lemmas.Bool.{leb-true, and_parts, or_left, false_from_ne_true, eqb-true, eq-eqb, cases_Bool, cases_eq, le-leb, le-ltb, and_from, and_left}
+use Rattle.base_proofs.proofs.Bools.{cond_second, cond_first}
 use Rattle.base_token.specs.declared.place.Span.{Span}
 use Rattle.base_token.specs.Kinds.{assign_kind, in_kind, new_kind, import_kind, target_kind, meta_kind, back_quote_kind, question_mark_kind, hash_kind, async_kind, comma_kind, dot_kind, left_paren_kind, left_bracket_kind, right_bracket_kind, right_paren_kind, function_kind, arrow_kind, left_brace_kind, class_kind}
 use Rattle.tree_spec.specs.Tree.{Tree, Trees, none, more, pack, unpack, this_expr, null_lit, bool_lit, ident, str_lit, number_lit, big_int_lit, regex_lit, paren_expr, array_lit, unary_expr, update_expr, await_expr, bin_expr, cond_expr, seq_expr, member_expr, call_expr, new_expr, computed_prop_name, ident_name, private_name, expr_or_spread, hole, absent, list, tpl, tagged_tpl, opt_chain_expr, opt_call, super, import, super_prop_expr, meta_prop_expr, yield_expr, object_lit, key_value_prop, assign_prop, spread_element, binding_ident, array_pat, object_pat, assign_pat, rest_pat, key_value_pat_prop, assign_pat_prop, expr_pat, assign_expr, arrow_expr, block_stmt, fn_expr, class_expr}
+use Rattle.tree_spec.proofs.PackLemmas.{unpack_pack, pack_unpack}
 use Rattle.grammar_spec.specs.Tokens.Input.{in_list, TakesWord, text, no_name, barred, brk2, Input, Code, kind, kind2, brk, lo, rest, span, first_span, with_in, is_word, Takes, in_arrow}
 use Rattle.grammar_spec.specs.Tokens.Operators.{assignment_level, binary_level, right_level, operates, goes_expr, is_assign_op}
 use Rattle.grammar_spec.specs.Tokens.Shape.{is_absent, is_block, is_target, is_structured, is_simple, is_chain, is_private, level, ends, last_ends, fits_left}
@@ -16,11 +18,11 @@ use Rattle.grammar_spec.specs.Reader.Expressions.{Elements, assign_by, private_i
 use Rattle.grammar_spec.specs.Reader.Cover.{to_target}
 use Rattle.grammar_spec.specs.Reader.Reading.{readers}
 use Rattle.grammar_laws.proofs.complete_base.Yields.{reads_deep, reads_told, first_at, IsName, lm, from, len, coded, then_reads, Is, then_is, Loops, loop_on, looped, Reads, here, ended, if_no, if_yes, then_past, then_past_reads, after_one, then_noted}
-use Rattle.grammar_laws.proofs.complete_base.Levels.{cond_no, cond_yes, calm_by, goes_calm, quits_by, goes_comma, closed_by, comma_after, Follow, sober_by, Asked, right_asked, right_five, right_most, tail, tail_high, tail_over, tail_stops, ends_high, fits, operated, binary_four, goes_binary, quiet}
+use Rattle.grammar_laws.proofs.complete_base.Levels.{calm_by, goes_calm, quits_by, goes_comma, closed_by, comma_after, Follow, sober_by, Asked, right_asked, right_five, right_most, tail, tail_high, tail_over, tail_stops, ends_high, fits, operated, binary_four, goes_binary, quiet}
 use Rattle.grammar_laws.proofs.complete_base.Trees.{function_word, Covered, CoveredAll, size, sizes, reach, reaches, begins, starts, no_kind, callee_sort, chain_level, ends_low, takes, some_assign, some_binary, some_update, by_unary, by_update}
 use Rattle.grammar_laws.proofs.complete_rules.Lengths.{taken, dotted_cut, bracket_cut, accessed_cut, elements_cut, arguments_cut, template_cut}
 use Rattle.grammar_laws.proofs.complete_rules.Prefixes.{literal_found, prefix_str, prefix_num, prefix_big, prefix_regex, prefix_this, prefix_null, prefix_true, prefix_false, prefix_unary, prefix_update, prefix_await, unary_found, update_found, await_found, prefix_ident, named_word}
-use Rattle.grammar_laws.proofs.complete_rules.Lists.{Finds, Deep, Has, pack_unpack, elements_found, one_asked, two_asked}
+use Rattle.grammar_laws.proofs.complete_rules.Lists.{Finds, Deep, Has, elements_found, one_asked, two_asked}
 use Rattle.grammar_laws.proofs.complete_rules.Groups.{paren_found, group_found}
 use Rattle.grammar_laws.proofs.complete_rules.Steps.{step_binary, step_cond, step_index, step_member, step_call, step_update, binary_found, cond_found, index_found, call_found}
 use Rattle.grammar_laws.proofs.complete_rules.Members.{private_found, Lists, dotted_member, indexed, called, chain_name, chain_index, chain_call, step_chain, step_template, template_found, prefix_template}
@@ -61,10 +63,6 @@ bare_or _ ts m = inl tt
 
 goes_paren : (c : Code) (e : ℕ) (m : Input) → e ≡ 0 → kind m ≡ left_paren_kind → goes_expr c e m ≡ 19
 goes_paren c e m z q = subst (λ (e : ℕ). goes_expr c e m ≡ 19) (sym z) (paren_goes c m q)
-
-unpack_pack : (xs : List Tree) → unpack (pack xs) ≡ xs
-unpack_pack [] = refl
-unpack_pack (x ∷ xs) = ap (λ ys. x ∷ ys) (unpack_pack xs)
 
 extended_plain : (x e : Tree) (n : Span) → 2 ≤ level x → extended x e n ≡ seq_expr n (more x (more e none))
 extended_plain (seq_expr s xs) e n h = absurd (omega arith)
@@ -341,7 +339,7 @@ module _ (z d : ℕ) (ih : (e : ℕ) → Comes z e) (deep : Deep z d) (F : Behin
       (arguments_cut (coded p c) xs h.0 r h.3)
       (λ j. step_call inner c (from ts k) f h.0 j _ _ h.3.1.0 (omega (arith, lv)) (subst (λ (y : Span). Reads (from h.0 j) (call_by lm inner c (from ts k) f (from h.0 j)) (Is (opt_chain_expr s false (opt_call y f xs)) r) (suc d < n)) (h.4 ∙ sym h.5)
       (subst (λ (ys : Trees). Reads (from h.0 j) (call_by lm inner c (from ts k) f (from h.0 j)) (Is (opt_chain_expr s false (opt_call s f ys)) r) (suc d < n)) (pack_unpack xs)
-      (subst (λ (y : Tree). Reads (from h.0 j) (call_by lm inner c (from ts k) f (from h.0 j)) (Is y r) (suc d < n)) (cond_yes (is_chain f) _ _ _ h.1 refl)
+      (subst (λ (y : Tree). Reads (from h.0 j) (call_by lm inner c (from ts k) f (from h.0 j)) (Is y r) (suc d < n)) (cond_first (is_chain f) _ _ _ h.1 refl)
       (called inner c ts k f h.0 j s xs h.3.0 r (d < reaches xs) h.3.1.2 (args xs h.3.0 r se ge h.3.2) (λ u. omega arith) h.4))))) K
 
   -- calls of `super` and `import`
@@ -470,7 +468,7 @@ module _ (z d : ℕ) (ih : (e : ℕ) → Comes z e) (deep : Deep z d) (F : Behin
   goes_assign : (op : ℕ) (m : Input) → is_assign_op op ≡ true → kind m ≡ op → goes_expr c 0 m ≡ 2
   goes_assign op m w e =
       let is : is_assign_op (kind m) ≡ true = subst (λ (y : ℕ). is_assign_op y ≡ true) (sym e) w in
-      cond_no (eqb (kind m) comma_kind) _ _ _ (no_kind is_assign_op (kind m) comma_kind is refl) (cond_yes (is_assign_op (kind m)) _ _ _ is refl)
+      cond_second (eqb (kind m) comma_kind) _ _ _ (no_kind is_assign_op (kind m) comma_kind is refl) (cond_first (is_assign_op (kind m)) _ _ _ is refl)
 
   quiet_assign : (op : ℕ) → is_assign_op op ≡ true → quiet op ≡ true
   quiet_assign op w = and_from (not (op == function_kind)) _ (ap not (no_kind is_assign_op op function_kind w refl)) (or_left (not (is_word op)) _ (ap not (false_from_ne_true (is_word op) (λ e. let u : 80 ≤ op = leb-true 80 op e in let v : op ≤ 75 = leb-true op 75 (and_parts (leb 60 op) (leb op 75) w).1 in omega arith))))

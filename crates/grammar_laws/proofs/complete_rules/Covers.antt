@@ -4,6 +4,7 @@ use Rattle.std.proofs.lemmas.Bool.{ne_eqb, eq-eqb, and_right, and_from, and_part
 use Rattle.base_token.specs.declared.place.Span.{Span}
 use Rattle.base_token.specs.Kinds.{template_kind, comma_kind, colon_kind, assign_kind, dot_dot_dot_kind, left_bracket_kind, right_bracket_kind, left_brace_kind, right_brace_kind}
 use Rattle.tree_spec.specs.Tree.{Tree, Trees, none, more, pack, unpack, ident, array_lit, object_lit, member_expr, super_prop_expr, paren_expr, binding_ident, array_pat, object_pat, assign_pat, rest_pat, key_value_pat_prop, assign_pat_prop, expr_pat, hole, absent, param, computed_prop_name}
+use Rattle.tree_spec.proofs.PackLemmas.{pack_unpack}
 use Rattle.grammar_spec.specs.Tokens.Input.{Input, Code, kind, is_word, lo, rest, span, dots_at, with_in}
 use Rattle.grammar_spec.specs.Tokens.Operators.{assignment_level}
 use Rattle.grammar_spec.specs.Tokens.Shape.{level, ends, is_simple, is_target_expr, is_structured, is_place, is_item_pat, is_rest, is_hole, is_absent}
@@ -18,9 +19,10 @@ use Rattle.grammar_laws.proofs.complete_base.Yields.{lm, from, len, coded, Fresh
 use Rattle.grammar_laws.proofs.complete_base.Levels.{tail, Follow, closed_by, comma_after, closes, quiet}
 use Rattle.grammar_laws.proofs.complete_rules.Lengths.{item_taken, property_taken}
 use Rattle.grammar_laws.proofs.complete_base.Trees.{Covered, CoveredAll, size, sizes, reach, reaches, takes, no_kind, by_cases, begins, starts, name_begins}
-use Rattle.grammar_laws.proofs.complete_rules.Lists.{Finds, hole_is, pack_unpack}
+use Rattle.grammar_laws.proofs.complete_rules.Lists.{Finds}
 use Rattle.grammar_laws.proofs.complete_rules.Members.{no_more}
 use Rattle.grammar_laws.proofs.complete_rules.Objects.{begins_key, key_starts, key_found, OneWord, plain_prop, Plain, plain_next, Divides, divided, short_prop, cover_prop}
+use Rattle.grammar_laws.proofs.Shapes.{hole_is}
 
 -- ---- refining
 

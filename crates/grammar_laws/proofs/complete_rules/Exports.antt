@@ -4,6 +4,7 @@ use Rattle.std.proofs.lemmas.Bool.{eqb-true, eq-eqb, cases_Bool, or_left, or_rig
 use Rattle.base_token.specs.declared.place.Span.{Span}
 use Rattle.base_token.specs.Kinds.{end_kind, mul_kind, left_brace_kind, right_brace_kind, default_kind, function_kind, class_kind, extends_kind, export_kind, as_kind, from_kind, async_kind}
 use Rattle.tree_spec.specs.Tree.{Tree, Trees, none, more, pack, unpack, function, class, fn_expr, class_expr, class_decl, fn_decl, var_decl, named_export, export_all, export_decl, export_default_decl, export_default_expr, export_namespace_specifier, ident, absent}
+use Rattle.tree_spec.proofs.PackLemmas.{pack_unpack}
 use Rattle.grammar_spec.specs.Tokens.Input.{Input, Code, kind, kind2, brk, lo, span, first_span, rest, is_word, no_name, in_list, with_in, turned_strict, TakesWord}
 use Rattle.grammar_spec.specs.Tokens.Operators.{assignment_level, exports_end, goes_on}
 use Rattle.grammar_spec.specs.Tokens.Shape.{level, ends, is_absent, is_item, is_statement, is_declaration, is_exportable, is_named_export, class_span}
@@ -18,16 +19,16 @@ use Rattle.grammar_spec.specs.Reader.Statements.{starts_async}
 use Rattle.grammar_spec.specs.Reader.Modules.{export_name_by, source_by, specifiers_by, export_default, export_star, export_list, starts_declaration, export_by}
 use Rattle.grammar_laws.proofs.complete_base.Yields.{lm, from, coded, Reads, Is, named, then_is, then_eat, then_word, then_name, onto, here, if_no, if_yes}
 use Rattle.grammar_laws.proofs.complete_base.Trees.{by_cases, no_kind}
-use Rattle.grammar_laws.proofs.complete_rules.Lists.{pack_unpack, two_asked}
+use Rattle.grammar_laws.proofs.complete_rules.Lists.{two_asked}
 use Rattle.grammar_laws.proofs.complete_rules.Nested.{Nested, leaves}
 use Rattle.grammar_laws.proofs.complete_rules.Within.{Within, within}
 use Rattle.grammar_laws.proofs.complete_rules.Follows.{end_follows, ends_two, then_end}
 use Rattle.grammar_laws.proofs.complete_rules.Starts.{ident_is}
 use Rattle.grammar_laws.proofs.complete_rules.Functions.{empty_none, function_expressed}
-use Rattle.grammar_laws.proofs.complete_rules.Simple.{absent_is}
 use Rattle.grammar_laws.proofs.complete_rules.Variables.{declarators_start, var_on}
 use Rattle.grammar_laws.proofs.complete_rules.Sources.{Attributed, attributed, export_name_found, source_found}
 use Rattle.grammar_laws.proofs.complete_rules.Imports.{specifiers_found, exports_read}
+use Rattle.grammar_laws.proofs.Shapes.{absent_is}
 
 -- ---- classes without a name
 

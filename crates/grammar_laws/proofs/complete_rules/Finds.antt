@@ -1,6 +1,7 @@
 -- Reading comes to the loop with a tree in hand, and so reads it, since the loop stops there.
 use Rattle.std.proofs.Common.{◌≡◌, ℕ, zero, suc, ◌<◌, ◌≤◌, ◌⊎◌, ⊎_elim, Bool, true, false, not, ◌&&◌, ◌==◌, eqb, leb, ltb, List, Ok, refl, sym, ap, ◌∙◌, subst, arith}
 use Rattle.std.proofs.lemmas.Bool.{ne_eqb, eq-eqb, lt-ltb, leb-true, and_from, and_left, or_left, false_from_ne_true}
+use Rattle.base_proofs.proofs.Bools.{cond_second, cond_first}
 use Rattle.base_token.specs.declared.place.Span.{Span}
 use Rattle.base_token.specs.Kinds.{async_kind, comma_kind, dot_kind, question_mark_kind, left_paren_kind, left_bracket_kind, right_paren_kind, function_kind}
 use Rattle.tree_spec.specs.Tree.{Tree, Trees, none, more, this_expr, null_lit, bool_lit, ident, str_lit, number_lit, big_int_lit, regex_lit, paren_expr, array_lit, unary_expr, update_expr, await_expr, bin_expr, cond_expr, seq_expr, member_expr, call_expr, new_expr, computed_prop_name, ident_name, private_name, expr_or_spread, hole, absent, list, tpl, tagged_tpl, opt_chain_expr, opt_call, super, import, super_prop_expr, meta_prop_expr, yield_expr, object_lit, key_value_prop, assign_prop, spread_element, binding_ident, array_pat, object_pat, assign_pat, rest_pat, key_value_pat_prop, assign_pat_prop, expr_pat, assign_expr, arrow_expr, fn_expr, class_expr}
@@ -15,7 +16,7 @@ use Rattle.grammar_spec.specs.Reader.Source.{State, Inner}
 use Rattle.grammar_spec.specs.Reader.Expressions.{Elements, elements_by, heads_params, arrows_at, expr_by, loop_step}
 use Rattle.grammar_spec.specs.Reader.Reading.{readers}
 use Rattle.grammar_laws.proofs.complete_base.Yields.{lm, from, coded, Is, Loops, loop_end, Reads, here, if_yes, too_deep}
-use Rattle.grammar_laws.proofs.complete_base.Levels.{Follow, sober, arrowed, quits, calm_at, Asked, tail, tail_high, ends_high, right_asked, binary_cases, tail_stops, tail_calm, operated, quiet, cond_no, cond_yes}
+use Rattle.grammar_laws.proofs.complete_base.Levels.{Follow, sober, arrowed, quits, calm_at, Asked, tail, tail_high, ends_high, right_asked, binary_cases, tail_stops, tail_calm, operated, quiet}
 use Rattle.grammar_laws.proofs.complete_base.Trees.{Covered, size, reach, by_update}
 use Rattle.grammar_laws.proofs.complete_rules.Prefixes.{Lone, lone_by}
 use Rattle.grammar_laws.proofs.complete_rules.Lists.{Finds, two_asked}
@@ -153,12 +154,12 @@ far_binary c op h = binary_cases op (30 ≤ op) (operated c op h) (λ a b. omega
 
 pub goes_question : (c : Code) (e : ℕ) (m : Input) → kind m ≡ question_mark_kind → e ≤ 1 → eqb (kind2 m) dot_kind ≡ false → goes_expr c e m ≡ 3
 goes_question c e m q le n =
-    cond_no (eqb (kind m) comma_kind) _ _ _ (subst (λ (k : ℕ). eqb k comma_kind ≡ false) (sym q) refl) (cond_no (leb 2 e) _ _ _ (false_from_ne_true (leb 2 e) (λ z. let y : 2 ≤ e = leb-true 2 e z in omega arith))
-    (cond_no (is_assign_op (kind m)) _ _ _ (subst (λ (k : ℕ). is_assign_op k ≡ false) (sym q) refl) (cond_yes (eqb (kind m) question_mark_kind) _ _ _ (eq-eqb (kind m) question_mark_kind q)
-    (cond_no ((kind2 m == dot_kind) && (e == 0)) _ _ _ (and_left (kind2 m == dot_kind) (e == 0) n) refl))))
+    cond_second (eqb (kind m) comma_kind) _ _ _ (subst (λ (k : ℕ). eqb k comma_kind ≡ false) (sym q) refl) (cond_second (leb 2 e) _ _ _ (false_from_ne_true (leb 2 e) (λ z. let y : 2 ≤ e = leb-true 2 e z in omega arith))
+    (cond_second (is_assign_op (kind m)) _ _ _ (subst (λ (k : ℕ). is_assign_op k ≡ false) (sym q) refl) (cond_first (eqb (kind m) question_mark_kind) _ _ _ (eq-eqb (kind m) question_mark_kind q)
+    (cond_second ((kind2 m == dot_kind) && (e == 0)) _ _ _ (and_left (kind2 m == dot_kind) (e == 0) n) refl))))
 
 pub goes_update : (c : Code) (op : ℕ) (m : Input) → kind m ≡ op → is_update_op op ≡ true → brk m ≡ false → goes_expr c 0 m ≡ 17
-goes_update c op m e u b = by_update op (λ o. kind m ≡ o → goes_expr c 0 m ≡ 17) u (λ e. rw e (cond_no (brk m) 0 17 17 b refl)) (λ e. rw e (cond_no (brk m) 0 17 17 b refl)) e
+goes_update c op m e u b = by_update op (λ o. kind m ≡ o → goes_expr c 0 m ≡ 17) u (λ e. rw e (cond_second (brk m) 0 17 17 b refl)) (λ e. rw e (cond_second (brk m) 0 17 17 b refl)) e
 
 pub goes_bracket : (c : Code) (m : Input) → kind m ≡ left_bracket_kind → goes_expr c 0 m ≡ 20
 goes_bracket c m e = rw e refl
@@ -213,9 +214,9 @@ firm_leads = record {
   binary = λ p c l s op a b ts r f h. firm_end c _ b (right_level op) _ _ r f refl refl h.6.0 (right_asked op (operated c op h.2));
   conditional = λ p c l s a b t ts r f h. firm_end c _ t 2 _ _ r f refl refl h.8.0 two_asked;
   assigns = λ p c l s op a b ts r f h. firm_end c _ b 2 _ _ r f refl refl h.6.0 two_asked;
-  arrow = λ p c l s ps e i ts r nb f h. let z = firm_end c _ e 2 _ _ r f (sym (cond_no (is_block e) 2 (ends e) (ends e) nb refl)) refl h.3.0 two_asked in record { calm = z.calm; end = z.end; sober = z.sober; quits = z.quits };
-  yields = λ p c l s a ts r na f h. firm_end c _ a 2 _ _ r f (sym (cond_no (is_absent a) 2 (ends a) (ends a) na refl)) refl h.4.0 two_asked;
-  yields_all = λ p c l s a ts r na f h. firm_end c _ a 2 _ _ r f (sym (cond_no (is_absent a) 2 (ends a) (ends a) na refl)) refl h.6.0 two_asked;
+  arrow = λ p c l s ps e i ts r nb f h. let z = firm_end c _ e 2 _ _ r f (sym (cond_second (is_block e) 2 (ends e) (ends e) nb refl)) refl h.3.0 two_asked in record { calm = z.calm; end = z.end; sober = z.sober; quits = z.quits };
+  yields = λ p c l s a ts r na f h. firm_end c _ a 2 _ _ r f (sym (cond_second (is_absent a) 2 (ends a) (ends a) na refl)) refl h.4.0 two_asked;
+  yields_all = λ p c l s a ts r na f h. firm_end c _ a 2 _ _ r f (sym (cond_second (is_absent a) 2 (ends a) (ends a) na refl)) refl h.6.0 two_asked;
   sequence = λ p c l s x y ys ts r f h. record { calm = λ o u. f.end o u; end = f.end; sober = f.sober; quits = f.quits };
   next = λ p c x y ys ts r f h. f;
   last = λ p c x ts r f h. firm_end c _ x 2 _ _ r f refl refl h.3.0 two_asked;

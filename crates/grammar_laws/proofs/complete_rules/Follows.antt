@@ -1,6 +1,7 @@
 -- What may follow an expression, and what ends a statement.
 use Rattle.std.proofs.Common.{◌≡◌, ℕ, zero, suc, ◌≤◌, inl, inr, Bool, true, false, not, ◌&&◌, ◌||◌, ◌==◌, cond, eqb, leb, List, Result, Ok, Err, refl, sym, ap, ◌∙◌, subst, ⊎_elim, true≢false, arith}
 use Rattle.std.proofs.lemmas.Bool.{eqb-true, ne_eqb, eq-eqb, le-leb, or_cases, or_left, or_parts, and_parts, and_right, not-true}
+use Rattle.base_proofs.proofs.Bools.{cond_second}
 use Rattle.base_token.specs.declared.place.Span.{Span}
 use Rattle.base_token.specs.Kinds.{end_kind, comma_kind, semicolon_kind, right_brace_kind, let_kind, left_paren_kind, left_bracket_kind, dot_kind, back_quote_kind, question_mark_kind, regex_kind, arrow_kind}
 use Rattle.tree_spec.specs.Tree.{Tree, Trees, none, more, ident, unary_expr, update_expr, await_expr, bin_expr, cond_expr, assign_expr, arrow_expr, yield_expr, seq_expr}
@@ -11,7 +12,7 @@ use Rattle.grammar_spec.specs.Children.{Ends}
 use Rattle.grammar_spec.specs.Statements.{statement_end}
 use Rattle.grammar_spec.specs.Reader.Source.{Fault, Unexpected, TooDeep, ◌>>=◌, State, end_of}
 use Rattle.grammar_laws.proofs.complete_base.Yields.{lm, from, coded, Yields, After, Reads, Is, onto, here}
-use Rattle.grammar_laws.proofs.complete_base.Levels.{Follow, sober, quiet, sober_by, ends_operand, quits_by, arrowed, calm_by, cond_no}
+use Rattle.grammar_laws.proofs.complete_base.Levels.{Follow, sober, quiet, sober_by, ends_operand, quits_by, arrowed, calm_by}
 
 -- ---- expressions
 
@@ -33,8 +34,8 @@ goes_nowhere c e m h =
     let k = kind m in
     let a = without (k == comma_kind) _ h in let b = without (is_assign_op k) _ a.1 in let d = without (k == question_mark_kind) _ b.1 in let f = without (operates c k) _ d.1 in let g = without (k == regex_kind) _ f.1 in
     let i = without (between 20 21 k) _ g.1 in let j = without (k == left_paren_kind) _ i.1 in let l = without ((k == left_bracket_kind) || ((k == dot_kind) || (k == back_quote_kind))) _ j.1 in
-    cond_no (k == comma_kind) _ _ _ a.0 (cond_any (leb 2 e) _ (cond_no (is_assign_op k) _ _ _ b.0 (cond_no (k == question_mark_kind) _ _ _ d.0 (cond_no (operates c k) _ _ _ f.0 (cond_no (k == regex_kind) _ _ _ g.0
-    (cond_any (leb 1 e) _ (cond_no (between 20 21 k) _ _ _ i.0 (cond_no (k == left_paren_kind) _ _ _ j.0 (cond_no ((k == left_bracket_kind) || ((k == dot_kind) || (k == back_quote_kind))) _ _ _ l.0 refl)))))))))
+    cond_second (k == comma_kind) _ _ _ a.0 (cond_any (leb 2 e) _ (cond_second (is_assign_op k) _ _ _ b.0 (cond_second (k == question_mark_kind) _ _ _ d.0 (cond_second (operates c k) _ _ _ f.0 (cond_second (k == regex_kind) _ _ _ g.0
+    (cond_any (leb 1 e) _ (cond_second (between 20 21 k) _ _ _ i.0 (cond_second (k == left_paren_kind) _ _ _ j.0 (cond_second ((k == left_bracket_kind) || ((k == dot_kind) || (k == back_quote_kind))) _ _ _ l.0 refl)))))))))
 
 -- nor on the next line
 pub calm_line : (m : Input) → brk m ≡ true → arrowed m ≡ false

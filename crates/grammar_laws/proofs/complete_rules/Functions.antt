@@ -4,9 +4,10 @@ use Rattle.std.proofs.lemmas.Bool.{eq-eqb, or_cases, and_left, and_from}
 use Rattle.base_token.specs.declared.place.Span.{Span}
 use Rattle.base_token.specs.Kinds.{dot_dot_dot_kind, left_paren_kind, right_paren_kind, left_bracket_kind, comma_kind, hash_kind, mul_kind, assign_kind, function_kind, class_kind}
 use Rattle.tree_spec.specs.Tree.{Tree, Trees, none, more, pack, unpack, param, function, block_stmt, fn_decl, fn_expr, class_decl, assign_pat, rest_pat, ident, ident_name, computed_prop_name, private_name, str_lit, number_lit, big_int_lit, absent}
+use Rattle.tree_spec.proofs.PackLemmas.{pack_unpack}
 use Rattle.grammar_spec.specs.Tokens.Input.{Input, Code, kind, lo, text, span, first_span, rest, dots_at, is_word, barred, with_in, setting, by, in_body, turned_strict, Takes, TakesWord}
 use Rattle.grammar_spec.specs.Tokens.Operators.{assignment_level}
-use Rattle.grammar_spec.specs.Tokens.Shape.{level, ends, is_absent, is_binding, is_place, is_item_pat, is_param, is_rest, is_key, is_private}
+use Rattle.grammar_spec.specs.Tokens.Shape.{level, ends, is_absent, is_binding, is_item_pat, is_param, is_rest, is_key, is_private}
 use Rattle.grammar_spec.specs.Children.{is_ident, IsEmpty, Sorted, Listed}
 use Rattle.grammar_spec.specs.Functions.{Parameters, Star, Async}
 use Rattle.grammar_spec.specs.Grammar.{Produces, children}
@@ -17,7 +18,7 @@ use Rattle.grammar_laws.proofs.complete_base.Yields.{lm, from, len, coded, first
 use Rattle.grammar_laws.proofs.complete_base.Levels.{Follow, closed_by, comma_after}
 use Rattle.grammar_laws.proofs.complete_base.Trees.{by_cases, takes, no_kind}
 use Rattle.grammar_laws.proofs.complete_rules.Prefixes.{literal_found}
-use Rattle.grammar_laws.proofs.complete_rules.Lists.{pack_unpack, two_asked}
+use Rattle.grammar_laws.proofs.complete_rules.Lists.{two_asked}
 use Rattle.grammar_laws.proofs.complete_rules.Steps.{computed_found}
 use Rattle.grammar_laws.proofs.complete_rules.Members.{private_found}
 use Rattle.grammar_laws.proofs.complete_rules.Objects.{str_read, number_read, big_int_read, begins_key, key_starts}
@@ -26,6 +27,7 @@ use Rattle.grammar_laws.proofs.complete_rules.Within.{ItemIn, item_in, Within, W
 use Rattle.grammar_laws.proofs.complete_rules.Follows.{built}
 use Rattle.grammar_laws.proofs.complete_rules.Starts.{starts_binding, binding_starts, ident_is}
 use Rattle.grammar_laws.proofs.complete_base.Cuts.{cut}
+use Rattle.grammar_laws.proofs.Shapes.{place_binds, absent_is}
 
 -- ---- what follows a parameter
 
@@ -45,17 +47,10 @@ pub empty_none : (xs : Trees) → IsEmpty (children xs) → xs ≡ none
 empty_none none h = refl
 empty_none (more x xs) h = absurd h
 
-place_binds : (t : Tree) → is_place true t ≡ true → is_binding t ≡ true
-place_binds t h = ⊎_elim (λ q. q) (λ q. absurd (true≢false (sym q))) (or_cases (is_binding t) _ h)
-
-no_dots : (ts : Input) → starts_binding (kind ts) ≡ true → eqb (kind ts) dot_dot_dot_kind ≡ false
+pub no_dots : (ts : Input) → starts_binding (kind ts) ≡ true → eqb (kind ts) dot_dot_dot_kind ≡ false
 no_dots ts h = no_kind starts_binding (kind ts) dot_dot_dot_kind h refl
 
-absent_is : (t : Tree) → is_absent t ≡ true → t ≡ absent
-absent_is absent h = refl
-absent_is _ h = absurd (true≢false (sym h))
-
-rest_same : (inner : Inner Input) (t : Tree) → is_param t ≡ true → is_rest_param lm inner t ≡ is_rest t
+pub rest_same : (inner : Inner Input) (t : Tree) → is_param t ≡ true → is_rest_param lm inner t ≡ is_rest t
 rest_same inner (param s ds (rest_pat t d a)) h = refl
 rest_same inner (param s ds _) h = refl
 rest_same inner _ h = absurd (true≢false (sym h))

@@ -4,6 +4,7 @@ use Rattle.std.proofs.lemmas.Bool.{ne_eqb, eq-eqb, or_left}
 use Rattle.base_token.specs.declared.place.Span.{Span}
 use Rattle.base_token.specs.Kinds.{comma_kind, mul_kind, left_brace_kind, right_brace_kind, str_kind, import_kind, as_kind, from_kind}
 use Rattle.tree_spec.specs.Tree.{Tree, Trees, none, more, pack, unpack, import_decl, import_named_specifier, import_default_specifier, import_star_as_specifier, export_named_specifier, ident, str_lit, absent}
+use Rattle.tree_spec.proofs.PackLemmas.{pack_unpack}
 use Rattle.grammar_spec.specs.Tokens.Input.{Input, Code, kind, lo, span, rest, is_word, TakesWord}
 use Rattle.grammar_spec.specs.Tokens.Shape.{is_absent, is_string, is_named_import, is_named_export, export_name}
 use Rattle.grammar_spec.specs.Children.{is_ident, child, Sorted, Listed}
@@ -13,13 +14,12 @@ use Rattle.grammar_spec.specs.Reader.Source.{Fault, ◌>>=◌, placed, State, an
 use Rattle.grammar_spec.specs.Reader.Modules.{export_name_by, local_by, source_by, named_import, named_export_item, specifier_step, specifiers_by, star_import, import_end, import_rest, import_default, import_decl_by}
 use Rattle.grammar_laws.proofs.complete_base.Yields.{lm, from, len, coded, first_at, Reads, reads_placed, Is, then_is, then_eat, then_word, onto, here, past_here, if_no, if_yes, Loops, loop_on, loop_end, looped}
 use Rattle.grammar_laws.proofs.complete_base.Trees.{by_cases, takes, no_kind}
-use Rattle.grammar_laws.proofs.complete_rules.Lists.{pack_unpack}
 use Rattle.grammar_laws.proofs.complete_rules.Nested.{Nested}
 use Rattle.grammar_laws.proofs.complete_rules.Starts.{ident_is}
 use Rattle.grammar_laws.proofs.complete_base.Cuts.{cut}
 use Rattle.grammar_laws.proofs.complete_rules.Functions.{empty_none}
-use Rattle.grammar_laws.proofs.complete_rules.Simple.{absent_is}
 use Rattle.grammar_laws.proofs.complete_rules.Sources.{Attributed, attributed, Divides, divides_kind, export_name_found, local_found, source_found}
+use Rattle.grammar_laws.proofs.Shapes.{absent_is}
 
 -- the kinds that start the name of an export
 abbrev pub starts_name : ℕ → Bool

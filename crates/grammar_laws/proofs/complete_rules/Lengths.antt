@@ -1,6 +1,7 @@
 -- How many tokens an expression and its parts take.
 use Rattle.std.proofs.Common.{◌≡◌, ℕ, ◌<◌, ◌≤◌, Bool, true, false, not, ◌&&◌, List, refl, sym, ◌∙◌, ⊎_elim, true≢false, arith}
 use Rattle.std.proofs.lemmas.Bool.{and_parts}
+use Rattle.base_proofs.proofs.Bools.{and_false}
 use Rattle.base_token.specs.declared.place.Span.{Span}
 use Rattle.base_token.specs.Kinds.{dot_kind, back_quote_kind, template_kind, hash_kind, left_paren_kind, left_bracket_kind, comma_kind}
 use Rattle.tree_spec.specs.Tree.{Tree, Trees, none, more, paren_expr, expr_or_spread, member_expr, computed_prop_name, ident_name, private_name, tpl_element, super_prop_expr, expr_pat, script, es_module}
@@ -11,7 +12,7 @@ use Rattle.grammar_spec.specs.Expressions.{Arguments, ArgumentList, AccessedName
 use Rattle.grammar_spec.specs.Patterns.{Property}
 use Rattle.grammar_spec.specs.Grammar.{Produces, children}
 use Rattle.grammar_laws.proofs.complete_base.Yields.{len, shorter}
-use Rattle.grammar_laws.proofs.complete_base.Trees.{some_word, takes, and_never}
+use Rattle.grammar_laws.proofs.complete_base.Trees.{some_word, takes}
 use Rattle.grammar_laws.proofs.complete_base.Cuts.{cut, level_least, least}
 
 -- an expression takes tokens
@@ -47,8 +48,8 @@ assigned_taken b e c ts r i h = taken e c ts r (target_level e c ts r (and_parts
 
 pub item_taken : (b : Bool) (t : Tree) (c : Code) (ts r : Input) → is_item_pat b t ≡ true → Produces t c ts r → len r < len ts
 item_taken b (expr_pat e) c ts r i h = assigned_taken b e c ts r i h.1
-item_taken b (script s ss l) c ts r i h = absurd (true≢false (sym i ∙ and_never (not b)))
-item_taken b (es_module s ss l) c ts r i h = absurd (true≢false (sym i ∙ and_never (not b)))
+item_taken b (script s ss l) c ts r i h = absurd (true≢false (sym i ∙ and_false (not b)))
+item_taken b (es_module s ss l) c ts r i h = absurd (true≢false (sym i ∙ and_false (not b)))
 item_taken b t c ts r i h = omega (arith, cut t c ts r h)
 
 property_least : (t : Tree) → is_pattern_prop t ≡ true → least t ≡ 1

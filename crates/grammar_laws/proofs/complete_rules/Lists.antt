@@ -1,9 +1,9 @@
 -- What the readers of elements answer, within the readers that a number of calls ties.
 use Rattle.std.proofs.Common.{◌≡◌, ℕ, suc, ◌<◌, ◌≤◌, ◌⊎◌, inl, inr, Bool, true, false, ◌&&◌, ◌==◌, eqb, List, [], ◌∷◌, ◌++◌, Some, None, refl, sym, ap, ◌∙◌, subst, ⊎_elim, true≢false, append_assoc, append-nil, arith}
-use Rattle.std.proofs.lemmas.Bool.{ne_eqb, eq-eqb, and_parts, and_from}
+use Rattle.std.proofs.lemmas.Bool.{ne_eqb, eq-eqb, and_parts, and_from, and_right}
 use Rattle.base_token.specs.declared.place.Span.{Span}
 use Rattle.base_token.specs.Kinds.{comma_kind, dot_dot_dot_kind}
-use Rattle.tree_spec.specs.Tree.{Tree, Trees, none, more, pack, unpack, expr_or_spread, hole, fn_expr, class_expr, block_stmt, method_prop, getter_prop, setter_prop}
+use Rattle.tree_spec.specs.Tree.{Tree, Trees, none, more, unpack, expr_or_spread, hole, fn_expr, class_expr, block_stmt, method_prop, getter_prop, setter_prop}
 use Rattle.grammar_spec.specs.Tokens.Input.{Input, Code, kind, rest, first_span, with_in}
 use Rattle.grammar_spec.specs.Tokens.Operators.{assignment_level}
 use Rattle.grammar_spec.specs.Tokens.Shape.{level, ends, is_element, is_hole}
@@ -13,10 +13,11 @@ use Rattle.grammar_spec.specs.Grammar.{Produces, children}
 use Rattle.grammar_spec.specs.Reader.Source.{State, go_on, finished}
 use Rattle.grammar_spec.specs.Reader.Expressions.{Elements, no_elements, element_by, after_element, element_step, elements_by, prefix_by, prop_by}
 use Rattle.grammar_spec.specs.Reader.Reading.{readers}
-use Rattle.grammar_laws.proofs.complete_base.Yields.{lm, from, len, coded, Is, then_is, then_eat, Loops, loop_on, loop_end, looped, shorter, Reads, here, past_here, if_no, if_yes, then_past}
+use Rattle.grammar_laws.proofs.complete_base.Yields.{lm, from, len, coded, Is, then_is, then_eat, Loops, loop_on, loop_end, looped, Reads, here, past_here, if_no, if_yes, then_past}
 use Rattle.grammar_laws.proofs.complete_base.Levels.{closes, quiet, Follow, closed_by, comma_after, Asked}
 use Rattle.grammar_laws.proofs.complete_rules.Lengths.{element_taken}
-use Rattle.grammar_laws.proofs.complete_base.Trees.{Covered, CoveredAll, size, sizes, reach, reaches, begins, starts, no_kind, by_cases}
+use Rattle.grammar_laws.proofs.complete_base.Trees.{Covered, CoveredAll, size, sizes, reach, reaches, begins, starts, no_kind, by_cases, takes}
+use Rattle.grammar_laws.proofs.Shapes.{hole_is}
 
 -- a method, a getter or a setter of an object
 abbrev pub is_method : Tree → Bool
@@ -46,14 +47,6 @@ one_asked = record { conditional = λ e. omega (arith, e); update = λ e. omega 
 abbrev pub Has : List Tree → Input → Elements × State Input → Type 0
 Has xs r x = (x.0.items ≡ xs) × (x.1.source ≡ r)
 
-pub pack_unpack : (xs : Trees) → pack (unpack xs) ≡ xs
-pack_unpack none = refl
-pack_unpack (more x xs) = ap (more x) (pack_unpack xs)
-
-pub hole_is : (x : Tree) → is_hole x ≡ true → x ≡ hole
-hole_is hole e = refl
-hole_is _ e = absurd (true≢false (sym e))
-
 element_starts : (x : Tree) (c : Code) (ts r : Input) → Covered x → is_element x ≡ true → Produces x c ts r → (begins (kind ts) ≡ true) ⊎ (kind ts ≡ dot_dot_dot_kind)
 element_starts (expr_or_spread s None e) c ts r g q h = inl (starts e _ ts r g (omega (arith, h.0.0)) h.0.1)
 element_starts (expr_or_spread s (Some d) e) c ts r g q h = inr h.1.0
@@ -82,15 +75,11 @@ module _ (z d : ℕ) (f : Finds z d) (p : Bool) (c : Code) where
     not_comma : (x : Tree) (ts m : Input) → Covered x → is_element x ≡ true → Produces x (coded p c) ts m → eqb (kind ts) comma_kind ≡ false
     not_comma x ts m g q h = ⊎_elim (λ (b : begins (kind ts) ≡ true). no_kind begins (kind ts) comma_kind b refl) (λ (e : kind ts ≡ dot_dot_dot_kind). no_kind (λ k. k == dot_dot_dot_kind) (kind ts) comma_kind (eq-eqb (kind ts) dot_dot_dot_kind e) refl) (element_starts x _ ts m g q h)
 
-    and_off : (a b : Bool) → b ≡ false → (a && b) ≡ false
-    and_off true b h = h
-    and_off false b h = refl
-
     pub step_comma : (x : Tree) (acc : List Tree) (b : Bool) (ts m r : Input) (k : List ℕ) → size x < z → Covered x → is_element x ≡ true → Produces x (coded p c) ts m → kind m ≡ comma_kind → rest m ≡ r
         → Reads (from ts k) (element_step lm (readers lm d) c holes close (record { items = acc; comma = b }) (from ts k)) (Is (go_on (record { items = acc ++ x ∷ []; comma = true })) r) (d < reach x)
     unfolding element_step after_element
     step_comma x acc b ts m r k sz g q h e t =
-        if_no (eqb (kind ts) close) _ _ _ _ (not_close x ts m g q h) (if_no (holes && (kind ts == comma_kind)) _ _ _ _ (and_off holes _ (not_comma x ts m g q h))
+        if_no (eqb (kind ts) close) _ _ _ _ (not_close x ts m g q h) (if_no (holes && (kind ts == comma_kind)) _ _ _ _ (and_right holes _ (not_comma x ts m g q h))
         (then_is (element_by lm (readers lm d) c (from ts k)) _ x m (d < reach x) _ _ (element_found x ts m k sz g q h (λ n. comma_after (with_in c) n 2 m e (omega arith))) (λ u. u)
         (λ j. if_yes (eqb (kind m) comma_kind) _ _ _ _ (eq-eqb (kind m) comma_kind e) (past_here refl t))))
 
@@ -98,7 +87,7 @@ module _ (z d : ℕ) (f : Finds z d) (p : Bool) (c : Code) where
         → Reads (from ts k) (element_step lm (readers lm d) c holes close (record { items = acc; comma = b }) (from ts k)) (Is (finished (record { items = acc ++ x ∷ []; comma = false })) r) (d < reach x)
     unfolding element_step after_element
     step_close x acc b ts m r k sz g q h e t =
-        if_no (eqb (kind ts) close) _ _ _ _ (not_close x ts m g q h) (if_no (holes && (kind ts == comma_kind)) _ _ _ _ (and_off holes _ (not_comma x ts m g q h))
+        if_no (eqb (kind ts) close) _ _ _ _ (not_close x ts m g q h) (if_no (holes && (kind ts == comma_kind)) _ _ _ _ (and_right holes _ (not_comma x ts m g q h))
         (then_is (element_by lm (readers lm d) c (from ts k)) _ x m (d < reach x) _ _ (element_found x ts m k sz g q h (λ n. closed_by (with_in c) n 2 close m e cl qu (omega arith))) (λ u. u)
         (λ j. if_no (eqb (kind m) comma_kind) _ _ _ _ (no_kind closes (kind m) comma_kind (subst (λ (n : ℕ). closes n ≡ true) (sym e) cl) refl) (then_eat close m r j _ _ _ e t (here refl)))))
 
@@ -113,19 +102,16 @@ module _ (z d : ℕ) (f : Finds z d) (p : Bool) (c : Code) where
     unfolding element_step
     step_end acc b ts r k P e t = if_yes (eqb (kind ts) close) _ _ _ _ (eq-eqb (kind ts) close e) (past_here refl t)
 
-    takes_less : (k : ℕ) (m r : Input) → kind m ≡ k → 1 ≤ k → rest m ≡ r → len r < len m
-    takes_less k m r e l t = shorter m r (λ n. omega (arith, e, n)) t
-
     pub elements_loop : (xs : Trees) (acc : List Tree) (b : Bool) (ts r : Input) (k : List ℕ) (n : ℕ) → sizes xs < z → CoveredAll xs → Listed holes (Sorted is_element (coded p c)) (coded p c) close (children xs) ts r → reaches xs ≤ n
         → Loops (element_step lm (readers lm d) c holes close) (record { items = acc; comma = b }) ts k (Has (acc ++ unpack xs) r) (d < n)
     elements_loop none acc b ts r k n sz g h le = loop_end _ _ (record { items = acc; comma = b }) ts r k ⊥ _ _ (step_end acc b ts r k ⊥ h.0 h.2) (λ u. absurd u) (λ l. (sym (append-nil acc), refl))
     elements_loop (more x xs) acc b ts r k n sz g h le = by_cases (holes && is_hole x) _ _ _ h
         (λ e y. let w = and_parts holes (is_hole x) e in
-        loop_on _ _ (record { items = acc ++ hole ∷ []; comma = false }) ts y.0 k ⊥ _ _ (step_hole acc b ts y.0 k ⊥ w.0 y.1.0 y.1.2) (λ u. absurd u) (takes_less comma_kind ts y.0 y.1.0 (omega arith) y.1.2)
+        loop_on _ _ (record { items = acc ++ hole ∷ []; comma = false }) ts y.0 k ⊥ _ _ (step_hole acc b ts y.0 k ⊥ w.0 y.1.0 y.1.2) (λ u. absurd u) (takes comma_kind ts y.0 y.1.0 (omega arith) y.1.2)
         (λ l. subst (λ ys. Loops (element_step lm (readers lm d) c holes close) (record { items = acc ++ hole ∷ []; comma = false }) y.0 l (Has ys r) (d < n)) (append_assoc acc (hole ∷ []) (unpack xs) ∙ ap (λ (v : Tree). acc ++ (v ∷ unpack xs)) (sym (hole_is x w.1)))
         (elements_loop xs (acc ++ hole ∷ []) false y.0 r l n (omega arith) g.1 y.2 (omega arith))))
         (λ e y. let shrinks : len y.0 < len ts = element_taken x _ ts y.0 y.1 in ⊎_elim
-        (λ v. loop_on _ _ (record { items = acc ++ x ∷ []; comma = true }) ts v.1 k (d < reach x) _ _ (step_comma x acc b ts y.0 v.1 k (omega arith) g.0 y.1.0 y.1.1 v.2.0 v.2.2) (λ u. omega arith) (omega (arith, takes_less comma_kind y.0 v.1 v.2.0 (omega arith) v.2.2))
+        (λ v. loop_on _ _ (record { items = acc ++ x ∷ []; comma = true }) ts v.1 k (d < reach x) _ _ (step_comma x acc b ts y.0 v.1 k (omega arith) g.0 y.1.0 y.1.1 v.2.0 v.2.2) (λ u. omega arith) (omega (arith, takes comma_kind y.0 v.1 v.2.0 (omega arith) v.2.2))
         (λ l. subst (λ ys. Loops (element_step lm (readers lm d) c holes close) (record { items = acc ++ x ∷ []; comma = true }) v.1 l (Has ys r) (d < n)) (append_assoc acc (x ∷ []) (unpack xs))
         (elements_loop xs (acc ++ x ∷ []) true v.1 r l n (omega arith) g.1 v.3 (omega arith))))
         (λ v. loop_end _ _ (record { items = acc ++ x ∷ []; comma = false }) ts r k (d < reach x) _ _ (step_close x acc b ts y.0 r k (omega arith) g.0 y.1.0 y.1.1 v.1.0 v.1.2) (λ u. omega arith) (λ l. (ap (λ ys. acc ++ (x ∷ ys)) (sym (empty_none xs v.0)), refl)))

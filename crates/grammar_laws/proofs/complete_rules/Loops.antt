@@ -5,6 +5,7 @@ use Rattle.base_token.specs.declared.context.Context.{Context}
 use Rattle.base_token.specs.declared.place.Span.{Span}
 use Rattle.base_token.specs.Kinds.{arrow_kind, left_paren_kind, right_paren_kind, left_bracket_kind, left_brace_kind, semicolon_kind, function_kind, await_kind, for_kind, var_kind, let_kind, const_kind, async_kind, of_kind, in_kind, using_kind}
 use Rattle.tree_spec.specs.Tree.{Tree, Trees, none, more, unpack, var_declarator, for_stmt, for_in_stmt, for_of_stmt, var_decl, using_decl, absent}
+use Rattle.tree_spec.proofs.PackLemmas.{pack_unpack}
 use Rattle.grammar_spec.specs.Tokens.Input.{Input, Code, kind, kind2, brk, brk2, lo, span, rest, is_word, always_reserved, without_in, Takes, TakesWord}
 use Rattle.grammar_spec.specs.Tokens.Operators.{expression_level, assignment_level, may_name, binding_end, goes_expr}
 use Rattle.grammar_spec.specs.Tokens.Shape.{level, ends, is_absent, is_declarator, is_bare_declarator, declarator_end, declarators_end}
@@ -15,14 +16,15 @@ use Rattle.grammar_spec.specs.Reader.Source.{State, Inner}
 use Rattle.grammar_spec.specs.Reader.Statements.{clause_by, for_rest, over_rest, in_rest, of_rest, one_bare, head_rest, for_variables, for_using, for_expression_rest, for_expression, for_head, for_by, sub_by, declarators_by, starts_let, starts_using, starts_await_using}
 use Rattle.grammar_laws.proofs.complete_base.Yields.{lm, from, coded, Reads, Is, then_is, then_reads, then_eat, then_word, onto, here, past_here, if_no, if_yes}
 use Rattle.grammar_laws.proofs.complete_base.Levels.{calm_by, Follow, Asked, quiet, ends_operand}
-use Rattle.grammar_laws.proofs.complete_rules.Lists.{pack_unpack, one_asked, two_asked}
+use Rattle.grammar_laws.proofs.complete_rules.Lists.{one_asked, two_asked}
 use Rattle.grammar_laws.proofs.complete_base.Trees.{by_cases}
 use Rattle.grammar_laws.proofs.complete_rules.Nested.{Nested, IsHead, leaves}
 use Rattle.grammar_laws.proofs.complete_rules.Within.{Within, Withins, within, withins}
 use Rattle.grammar_laws.proofs.complete_rules.Follows.{halts, halted, goes_nowhere, built, lifted}
 use Rattle.grammar_laws.proofs.complete_rules.Starts.{opens, Opening, After, opening, level_opener, place_opener, no_open}
-use Rattle.grammar_laws.proofs.complete_rules.Simple.{absent_is, one_found, stmt_found}
+use Rattle.grammar_laws.proofs.complete_rules.Simple.{one_found, stmt_found}
 use Rattle.grammar_laws.proofs.complete_rules.Variables.{Settled, settled_at, bare_settled, declarators_found, declarators_start, var_on, using_on, await_on, no_using, no_await_using, no_let}
+use Rattle.grammar_laws.proofs.Shapes.{absent_is}
 
 -- ---- what follows a head
 

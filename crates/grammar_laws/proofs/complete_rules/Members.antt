@@ -5,6 +5,7 @@ use Rattle.base_token.specs.declared.place.Span.{Span}
 use Rattle.base_token.specs.Kinds.{hash_kind, dot_kind, back_quote_kind, template_kind, dollar_brace_kind, right_brace_kind, question_mark_kind, left_paren_kind, left_bracket_kind, right_paren_kind}
 use Rattle.base_token.specs.Tokens.{Piece}
 use Rattle.tree_spec.specs.Tree.{Tree, Trees, none, more, pack, unpack, member_expr, opt_chain_expr, opt_call, computed_prop_name, ident_name, private_name, tpl, tpl_element, tagged_tpl}
+use Rattle.tree_spec.proofs.PackLemmas.{pack_unpack}
 use Rattle.grammar_spec.specs.Tokens.Input.{Input, Code, kind, kind2, lo, hi, content, rest, span, is_word, with_in}
 use Rattle.grammar_spec.specs.Tokens.Operators.{expression_level}
 use Rattle.grammar_spec.specs.Tokens.Shape.{level, ends, is_chain, is_cooked}
@@ -18,7 +19,7 @@ use Rattle.grammar_laws.proofs.complete_base.Yields.{lm, from, coded, first_at, 
 use Rattle.grammar_laws.proofs.complete_base.Levels.{closed_by}
 use Rattle.grammar_laws.proofs.complete_rules.Lengths.{taken}
 use Rattle.grammar_laws.proofs.complete_base.Trees.{CoveredAll, sizes, reach, reaches, takes}
-use Rattle.grammar_laws.proofs.complete_rules.Lists.{Finds, Has, pack_unpack, one_asked}
+use Rattle.grammar_laws.proofs.complete_rules.Lists.{Finds, Has, one_asked}
 use Rattle.grammar_laws.proofs.complete_rules.Steps.{computed_found}
 
 -- ---- names after a dot

@@ -4,6 +4,7 @@ use Rattle.std.proofs.lemmas.Bool.{ne_eqb, eq-eqb, cases_eq, le-leb, lt-ltb, and
 use Rattle.base_token.specs.declared.place.Span.{Span}
 use Rattle.base_token.specs.Kinds.{hash_kind, async_kind, new_kind, dot_kind, left_paren_kind, right_paren_kind}
 use Rattle.tree_spec.specs.Tree.{Tree, Trees, pack, unpack, this_expr, null_lit, bool_lit, ident, ident_name, private_name, str_lit, number_lit, big_int_lit, regex_lit, paren_expr, array_lit, unary_expr, update_expr, await_expr, bin_expr, cond_expr, seq_expr, member_expr, call_expr, new_expr, computed_prop_name, expr_or_spread, hole, absent, list, tpl, tagged_tpl, opt_chain_expr, opt_call, super, import, super_prop_expr, meta_prop_expr, yield_expr, object_lit, key_value_prop, assign_prop, spread_element, binding_ident, array_pat, object_pat, assign_pat, rest_pat, key_value_pat_prop, assign_pat_prop, expr_pat, assign_expr, arrow_expr, fn_expr, class_expr, function}
+use Rattle.tree_spec.proofs.PackLemmas.{pack_unpack}
 use Rattle.grammar_spec.specs.Tokens.Input.{Input, Code, kind, kind2, lo, rest, span, barred, assigning}
 use Rattle.grammar_spec.specs.Tokens.Operators.{goes_expr}
 use Rattle.grammar_spec.specs.Tokens.Shape.{level, ends}
@@ -14,7 +15,7 @@ use Rattle.grammar_spec.specs.Reader.Reading.{readers}
 use Rattle.grammar_laws.proofs.complete_base.Yields.{first_at, lm, from, coded, then_reads, Is, then_is, then_word, then_name, Reads, here, ended, if_no, if_yes, then_past, too_deep}
 use Rattle.grammar_laws.proofs.complete_base.Levels.{sober, tail, tail_high, ends_high, binary_low}
 use Rattle.grammar_laws.proofs.complete_base.Trees.{Covered, size, reach, begins, starts, no_kind}
-use Rattle.grammar_laws.proofs.complete_rules.Lists.{Has, pack_unpack}
+use Rattle.grammar_laws.proofs.complete_rules.Lists.{Has}
 use Rattle.grammar_laws.proofs.complete_rules.Finds.{Bare, Behind, Leads, Firm, Comes, paren_goes, reads}
 
 -- a callee of `new`

@@ -5,6 +5,7 @@ use Rattle.base_number.specs.Numbers.{SpecNumber}
 use Rattle.base_token.specs.declared.place.Span.{Span}
 use Rattle.base_token.specs.Kinds.{comma_kind, colon_kind, assign_kind, dot_dot_dot_kind, mul_kind, left_paren_kind, left_bracket_kind, left_brace_kind, right_brace_kind, str_kind, num_kind, big_int_kind, async_kind, get_kind, set_kind, hash_kind}
 use Rattle.tree_spec.specs.Tree.{Tree, Trees, none, more, pack, unpack, ident, ident_name, computed_prop_name, str_lit, number_lit, big_int_lit, object_lit, key_value_prop, assign_prop, spread_element, getter_prop, setter_prop, method_prop, function, block_stmt}
+use Rattle.tree_spec.proofs.PackLemmas.{pack_unpack}
 use Rattle.grammar_spec.specs.Tokens.Input.{Input, Code, kind, kind2, lo, text, content, rest, span, first_span, is_word, with_in, assigning}
 use Rattle.grammar_spec.specs.Tokens.Operators.{assignment_level, starts_key}
 use Rattle.grammar_spec.specs.Tokens.Shape.{level, ends, is_prop, is_key}
@@ -20,7 +21,7 @@ use Rattle.grammar_laws.proofs.complete_base.Levels.{Follow, closed_by, comma_af
 use Rattle.grammar_laws.proofs.complete_rules.Lengths.{prop_taken}
 use Rattle.grammar_laws.proofs.complete_base.Trees.{Covered, CoveredAll, size, sizes, reach, reaches, takes, no_kind}
 use Rattle.grammar_laws.proofs.complete_rules.Prefixes.{literal_found}
-use Rattle.grammar_laws.proofs.complete_rules.Lists.{Finds, Deep, Has, pack_unpack, two_asked}
+use Rattle.grammar_laws.proofs.complete_rules.Lists.{Finds, Deep, Has, two_asked}
 use Rattle.grammar_laws.proofs.complete_rules.Steps.{computed_found}
 use Rattle.grammar_laws.proofs.complete_rules.Members.{no_more}
 
@@ -210,3 +211,14 @@ module _ (z d : ℕ) (f : Finds z d) (p : Bool) (c : Code) where
   object_found dp lev s xs ts m r k {Q = Q} sz g e q h sp i = rw e (then_noted ts m k (iterate (bound lm) (prop_step lm inner c) no_elements) _ _ (Has (unpack xs) r) (d < reaches xs) (Is (object_lit s xs) r) Q (λ u. omega (arith, e, u)) (λ u. omega (arith, e, u)) q
       (looped (prop_step lm inner c) no_elements m k (Has (unpack xs) r) (d < reaches xs) (object_loop dp xs [] false m r k (reaches xs) sz g h (omega arith))) i
       (λ x v. (ap (λ ys. object_lit (span (lo ts) x.1.source.last) (pack ys)) v.0 ∙ ap (λ ys. object_lit (span (lo ts) x.1.source.last) ys) (pack_unpack xs) ∙ ap (λ (z : Input). object_lit (span (lo ts) z.last) xs) v.1 ∙ ap (λ z. object_lit z xs) (sym sp), v.1)))
+
+pub key_opens : (k : ℕ) → begins_key k ≡ true → starts_key k ≡ true
+key_opens k h = widen (is_word k) (k == str_kind) (k == num_kind) (k == big_int_kind) (k == left_bracket_kind) (k == hash_kind) h
+  where
+    widen : (a b d e f g : Bool) → (a || (b || (d || (e || f)))) ≡ true → (a || (b || (d || (e || (f || g))))) ≡ true
+    widen true b d e f g h = refl
+    widen false true d e f g h = refl
+    widen false false true e f g h = refl
+    widen false false false true f g h = refl
+    widen false false false false true g h = refl
+    widen false false false false false g h = absurd (true≢false (sym h))

@@ -4,9 +4,10 @@ use Rattle.std.proofs.lemmas.Bool.{ne_eqb, eq-eqb, and_from, and_left, or_left}
 use Rattle.base_token.specs.declared.place.Span.{Span}
 use Rattle.base_token.specs.Kinds.{comma_kind, colon_kind, assign_kind, dot_dot_dot_kind, left_bracket_kind, right_bracket_kind, left_brace_kind, right_brace_kind}
 use Rattle.tree_spec.specs.Tree.{Tree, Trees, none, more, pack, unpack, ident, binding_ident, array_pat, object_pat, assign_pat, rest_pat, key_value_pat_prop, assign_pat_prop, hole, absent}
+use Rattle.tree_spec.proofs.PackLemmas.{pack_unpack}
 use Rattle.grammar_spec.specs.Tokens.Input.{Input, Code, kind, lo, rest, span, first_span, is_word, with_in}
 use Rattle.grammar_spec.specs.Tokens.Operators.{assignment_level}
-use Rattle.grammar_spec.specs.Tokens.Shape.{ends, is_binding, is_place, is_item_pat, is_structured, is_hole, is_rest, is_absent}
+use Rattle.grammar_spec.specs.Tokens.Shape.{ends, is_binding, is_item_pat, is_structured, is_hole, is_rest, is_absent}
 use Rattle.grammar_spec.specs.Children.{child, Listed}
 use Rattle.grammar_spec.specs.Patterns.{Item, Property}
 use Rattle.grammar_spec.specs.Grammar.{Produces, children}
@@ -19,9 +20,10 @@ use Rattle.grammar_laws.proofs.complete_base.Yields.{lm, from, coded, first_at, 
 use Rattle.grammar_laws.proofs.complete_base.Levels.{Follow, closed_by, comma_after}
 use Rattle.grammar_laws.proofs.complete_rules.Lengths.{item_taken, property_taken}
 use Rattle.grammar_laws.proofs.complete_base.Trees.{Covered, CoveredAll, size, sizes, reach, reaches, takes, no_kind, by_cases}
-use Rattle.grammar_laws.proofs.complete_rules.Lists.{Finds, pack_unpack, two_asked, hole_is}
+use Rattle.grammar_laws.proofs.complete_rules.Lists.{Finds, two_asked}
 use Rattle.grammar_laws.proofs.complete_rules.Members.{no_more}
 use Rattle.grammar_laws.proofs.complete_rules.Objects.{begins_key, key_starts, key_found}
+use Rattle.grammar_laws.proofs.Shapes.{place_binds, hole_is}
 
 -- A pattern that binds is read by calls so deep, or they are not deep enough.
 abbrev pub Binds : ℕ → ℕ → Type 0
@@ -35,13 +37,6 @@ Got xs r x = (x.0 ≡ xs) × (x.1.source ≡ r)
 abbrev pub begins_pattern : ℕ → Bool
 begins_pattern k = is_word k || ((k == left_bracket_kind) || (k == left_brace_kind))
 
-binding_of : (t : Tree) → is_place true t ≡ true → is_binding t ≡ true
-binding_of t h = or_false (is_binding t) h
-  where
-    or_false : (b : Bool) → (b || false) ≡ true → b ≡ true
-    or_false true h = h
-    or_false false h = h
-
 pattern_starts : (t : Tree) (c : Code) (ts r : Input) → is_binding t ≡ true → Produces t c ts r → begins_pattern (kind ts) ≡ true
 pattern_starts (binding_ident s (ident t n)) c ts r e h = or_left (is_word (kind ts)) _ h.1.0.0
 pattern_starts (binding_ident s i) c ts r e h = absurd h
@@ -51,7 +46,7 @@ pattern_starts _ c ts r e h = absurd (true≢false (sym e))
 
 -- an item that is no rest starts as a pattern
 item_starts : (x : Tree) (c : Code) (ts r : Input) → is_item_pat true x ≡ true → is_rest x ≡ false → Produces x (record c { binds = true }) ts r → begins_pattern (kind ts) ≡ true
-item_starts (assign_pat s a e) c ts r i n h = pattern_starts a (record c { binds = true }) ts h.0 (binding_of a h.2) h.3
+item_starts (assign_pat s a e) c ts r i n h = pattern_starts a (record c { binds = true }) ts h.0 (place_binds a h.2) h.3
 item_starts (rest_pat s d a) c ts r i n h = absurd (true≢false n)
 item_starts (binding_ident s x) c ts r i n h = pattern_starts (binding_ident s x) (record c { binds = true }) ts r refl h
 item_starts (array_pat s xs) c ts r i n h = pattern_starts (array_pat s xs) (record c { binds = true }) ts r refl h
@@ -71,7 +66,7 @@ module _ (z d : ℕ) (f : Finds z d) (b : Binds z d) (p : Bool) (c : Code) where
       → (d < reach x → Q) → ((j : List ℕ) → Reads (from m j) (F (x, from m j)) W Q) → Reads (from ts k) (inner.pat (with_in c) (from ts k) >>= λ y. initial_pat lm inner c (from ts k) y.0 y.1 >>= F) W Q
   unfolding initial_pat
   item_then (assign_pat s a e) ts m k F W Q sz g h n cl i y =
-      then_is (inner.pat (with_in c) (from ts k)) _ a h.1.0 (d < reach a) W Q (b a p (with_in c) ts h.1.0 k (omega arith) g.0 (binding_of a h.1.2) h.1.3) (λ u. i (omega arith))
+      then_is (inner.pat (with_in c) (from ts k)) _ a h.1.0 (d < reach a) W Q (b a p (with_in c) ts h.1.0 k (omega arith) g.0 (place_binds a h.1.2) h.1.3) (λ u. i (omega arith))
       (λ j. rw (eq-eqb (kind h.1.0) assign_kind h.1.4.0) (then_is _ _ (assign_pat s a e) m (d < reach e) W Q
       (then_past h.1.0 h.1.1 j (inner.expr (with_in c) assignment_level) _ e m (d < reach e) _ _ h.1.4.2 (f e p (with_in c) 2 h.1.1 m j (omega arith) g.1 h.1.5.1 (omega arith) (omega arith) two_asked h.1.5.0 (cl.0 (ends e))) (λ u. u) (λ l. here (ap (λ (v : Span). assign_pat v a e) (sym h.1.6))))
       (λ u. i (omega arith)) y))
@@ -119,7 +114,7 @@ module _ (z d : ℕ) (f : Finds z d) (b : Binds z d) (p : Bool) (c : Code) where
   unfolding array_item
   array_rest s q a acc ts m r k sz g h e v =
       if_no (eqb (kind ts) right_bracket_kind) _ _ _ _ (ne_eqb (kind ts) right_bracket_kind (λ x. omega (arith, x, h.1.1.0))) (if_no (eqb (kind ts) comma_kind) _ _ _ _ (ne_eqb (kind ts) comma_kind (λ x. omega (arith, x, h.1.1.0))) (if_yes (eqb (kind ts) dot_dot_dot_kind) _ _ _ _ (eq-eqb (kind ts) dot_dot_dot_kind h.1.1.0)
-      (then_past ts h.1.0 k (inner.pat (with_in c)) _ a m (d < reach a) _ _ h.1.1.2 (b a p (with_in c) h.1.0 m k sz g (binding_of a h.1.3) h.1.4) (λ u. u)
+      (then_past ts h.1.0 k (inner.pat (with_in c)) _ a m (d < reach a) _ _ h.1.1.2 (b a p (with_in c) h.1.0 m k sz g (place_binds a h.1.3) h.1.4) (λ u. u)
       (λ j. subst (λ (t : Tree). Reads (from m j) (after_item lm inner right_bracket_kind true (acc ++ t ∷ []) (from m j)) (Is (finished (acc ++ rest_pat s q a ∷ [])) r) (d < reach a)) (ap (λ (y : Span). rest_pat y q a) h.1.5 ∙ ap (λ (y : Span). rest_pat (span (lo ts) m.last) y a) h.1.2)
       (after_close (acc ++ rest_pat s q a ∷ []) m r j right_bracket_kind true _ e v refl)))))
 
@@ -210,7 +205,7 @@ module _ (z d : ℕ) (f : Finds z d) (b : Binds z d) (p : Bool) (c : Code) where
   unfolding object_item
   object_rest s q a acc ts m r k sz g h e v =
       if_no (eqb (kind ts) right_brace_kind) _ _ _ _ (ne_eqb (kind ts) right_brace_kind (λ x. omega (arith, x, h.2.1.0))) (if_yes (eqb (kind ts) dot_dot_dot_kind) _ _ _ _ (eq-eqb (kind ts) dot_dot_dot_kind h.2.1.0)
-      (then_past ts h.2.0 k (inner.pat (with_in c)) _ a m (d < reach a) _ _ h.2.1.2 (b a p (with_in c) h.2.0 m k sz g (binding_of a h.2.3) h.2.4) (λ u. u)
+      (then_past ts h.2.0 k (inner.pat (with_in c)) _ a m (d < reach a) _ _ h.2.1.2 (b a p (with_in c) h.2.0 m k sz g (place_binds a h.2.3) h.2.4) (λ u. u)
       (λ j. if_no (is_structured a) _ _ _ _ (flat (is_structured a) h.1) (subst (λ (t : Tree). Reads (from m j) (after_item lm inner right_brace_kind true (acc ++ t ∷ []) (from m j)) (Is (finished (acc ++ rest_pat s q a ∷ [])) r) (d < reach a)) (ap (λ (y : Span). rest_pat y q a) h.2.5 ∙ ap (λ (y : Span). rest_pat (span (lo ts) m.last) y a) h.2.2)
       (after_close (acc ++ rest_pat s q a ∷ []) m r j right_brace_kind true _ e v refl)))))
     where

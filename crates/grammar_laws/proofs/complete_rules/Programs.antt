@@ -4,6 +4,7 @@ use Rattle.std.proofs.lemmas.Bool.{eqb-true, ne_eqb, eq-eqb, cases_Bool, or_left
 use Rattle.base_token.specs.declared.place.Span.{Span}
 use Rattle.base_token.specs.Kinds.{left_paren_kind, dot_kind, colon_kind, shebang_kind, finally_kind, import_kind, export_kind}
 use Rattle.tree_spec.specs.Tree.{Tree, Trees, none, more, pack, unpack, script}
+use Rattle.tree_spec.proofs.PackLemmas.{pack_unpack}
 use Rattle.grammar_spec.specs.Tokens.Input.{PlacedToken, Input, Code, kind, kind2, kind_of, lo, span, in_list, turned_strict}
 use Rattle.grammar_spec.specs.Tokens.Shape.{is_item, is_use_strict, is_directive}
 use Rattle.grammar_spec.specs.Children.{Items, AtEnd}
@@ -13,7 +14,6 @@ use Rattle.grammar_spec.specs.Reader.Source.{go_on, finished, is_nil}
 use Rattle.grammar_spec.specs.Reader.Statements.{Body as Gathered}
 use Rattle.grammar_spec.specs.Reader.Modules.{item_by, program_item, program_step, program_rest, program_by, program_tree, starts_import}
 use Rattle.grammar_laws.proofs.complete_base.Yields.{lm, from, len, coded, Reads, Is, then_is, then_reads, onto, here, ended, if_no, if_yes, Loops, loop_on, loop_end, looped}
-use Rattle.grammar_laws.proofs.complete_rules.Lists.{pack_unpack}
 use Rattle.grammar_laws.proofs.complete_rules.Nested.{Nested, may_follow, leaves, follows}
 use Rattle.grammar_laws.proofs.complete_rules.Within.{Each, most}
 use Rattle.grammar_laws.proofs.complete_rules.Starts.{opens_item, item_opens, item_imports, no_item}

@@ -1,5 +1,5 @@
 -- Simple statements, and those whose parts are statements: what their rules answer.
-use Rattle.std.proofs.Common.{◌≡◌, ℕ, ◌<◌, ◌≤◌, ◌⊎◌, inl, inr, Bool, true, false, not, ◌&&◌, ◌||◌, ◌==◌, cond, List, Result, Ok, refl, sym, ap, ◌∙◌, subst, ⊎_elim, true≢false, arith}
+use Rattle.std.proofs.Common.{◌≡◌, ℕ, ◌<◌, ◌≤◌, ◌⊎◌, inl, inr, Bool, true, false, not, ◌&&◌, ◌||◌, ◌==◌, cond, List, Result, Ok, refl, sym, ap, ◌∙◌, subst, ⊎_elim, arith}
 use Rattle.std.proofs.lemmas.Bool.{ne_eqb, eq-eqb, or_left, or_right, or_from, or_cases, and_parts}
 use Rattle.base_token.specs.declared.place.Span.{Span}
 use Rattle.base_token.specs.Kinds.{end_kind, left_paren_kind, right_paren_kind, right_brace_kind, semicolon_kind, colon_kind, debugger_kind, return_kind, throw_kind, with_kind, while_kind, do_kind}
@@ -20,10 +20,7 @@ use Rattle.grammar_laws.proofs.complete_rules.Nested.{Nested, may_follow, leaves
 use Rattle.grammar_laws.proofs.complete_rules.Within.{Within, within}
 use Rattle.grammar_laws.proofs.complete_rules.Follows.{halted, ends_two, end_follows, then_end, built}
 use Rattle.grammar_laws.proofs.complete_rules.Starts.{opens, opening, level_opener, no_open, ident_is, may_opens, name_may}
-
-pub absent_is : (t : Tree) → is_absent t ≡ true → t ≡ absent
-absent_is absent h = refl
-absent_is _ h = absurd (true≢false (sym h))
+use Rattle.grammar_laws.proofs.Shapes.{absent_is}
 
 pub follows_at : (ts : Input) (k : ℕ) → kind ts ≡ k → may_follow k ≡ true → may_follow (kind ts) ≡ true
 follows_at ts k e h = subst (λ (k : ℕ). may_follow k ≡ true) (sym e) h

@@ -4,6 +4,7 @@ use Rattle.std.proofs.lemmas.Bool.{eqb-true, ne_eqb, eq-eqb, or_left, or_right, 
 use Rattle.base_token.specs.declared.place.Span.{Span}
 use Rattle.base_token.specs.Kinds.{end_kind, dot_dot_dot_kind, comma_kind, semicolon_kind, colon_kind, mul_kind, left_brace_kind, right_brace_kind, str_kind, async_kind, get_kind, set_kind, hash_kind, with_kind, assert_kind}
 use Rattle.tree_spec.specs.Tree.{Tree, Trees, none, more, pack, unpack, import_decl, named_export, export_all, export_decl, export_default_decl, export_default_expr, object_lit, key_value_prop, ident, ident_name, str_lit}
+use Rattle.tree_spec.proofs.PackLemmas.{pack_unpack}
 use Rattle.grammar_spec.specs.Tokens.Input.{Input, Code, kind, kind2, brk, brk2, lo, span, rest, is_word, barred, with_in, TakesWord}
 use Rattle.grammar_spec.specs.Tokens.Operators.{assignment_level, starts_key, source_end, plain_end, goes_on}
 use Rattle.grammar_spec.specs.Tokens.Shape.{ends, is_absent, is_string, is_prop, is_attribute_key, are_attributes, is_attributes, export_name}
@@ -17,14 +18,15 @@ use Rattle.grammar_laws.proofs.complete_base.Yields.{lm, from, coded, first_at, 
 use Rattle.grammar_laws.proofs.complete_base.Levels.{Follow, closed_by, comma_after}
 use Rattle.grammar_laws.proofs.complete_base.Trees.{by_cases, takes, no_kind}
 use Rattle.grammar_laws.proofs.complete_rules.Prefixes.{literal_found}
-use Rattle.grammar_laws.proofs.complete_rules.Lists.{Has, pack_unpack, two_asked}
+use Rattle.grammar_laws.proofs.complete_rules.Lists.{Has, two_asked}
 use Rattle.grammar_laws.proofs.complete_rules.Objects.{str_read, begins_key, key_starts, OneWord}
 use Rattle.grammar_laws.proofs.complete_rules.Nested.{Nested}
 use Rattle.grammar_laws.proofs.complete_rules.Within.{Within, within}
 use Rattle.grammar_laws.proofs.complete_rules.Follows.{then_end}
 use Rattle.grammar_laws.proofs.complete_base.Cuts.{cut}
 use Rattle.grammar_laws.proofs.complete_rules.Functions.{key_found, empty_none}
-use Rattle.grammar_laws.proofs.complete_rules.Simple.{absent_is, then_ident}
+use Rattle.grammar_laws.proofs.complete_rules.Simple.{then_ident}
+use Rattle.grammar_laws.proofs.Shapes.{absent_is}
 
 -- ---- what an item of a module hands on to the readers of nested parts
 

@@ -1,9 +1,10 @@
 -- Lists of statements: blocks, bodies, `switch` and `try`.
-use Rattle.std.proofs.Common.{◌≡◌, ℕ, ◌<◌, ◌≤◌, max, Bool, true, false, not, ◌&&◌, ◌||◌, ◌==◌, eqb, List, [], ◌∷◌, ◌++◌, if◌then◌else◌, Some, refl, sym, ap, ◌∙◌, subst, ⊎_elim, true≢false, append_assoc, append-nil, arith}
+use Rattle.std.proofs.Common.{◌≡◌, ℕ, ◌<◌, ◌≤◌, max, Bool, true, false, not, ◌&&◌, ◌||◌, ◌==◌, eqb, List, [], ◌∷◌, ◌++◌, if◌then◌else◌, refl, sym, ap, ◌∙◌, subst, ⊎_elim, true≢false, append_assoc, append-nil, arith}
 use Rattle.std.proofs.lemmas.Bool.{eqb-true, eq-eqb, cases_Bool, or_from, or_cases, not-true, and_from}
 use Rattle.base_token.specs.declared.place.Span.{Span}
 use Rattle.base_token.specs.Kinds.{left_paren_kind, right_paren_kind, left_brace_kind, right_brace_kind, colon_kind, case_kind, default_kind, catch_kind, finally_kind, try_kind, switch_kind}
-use Rattle.tree_spec.specs.Tree.{Tree, Trees, none, more, pack, unpack, block_stmt, switch_stmt, switch_case, try_stmt, catch_clause, expr_stmt, str_lit, absent}
+use Rattle.tree_spec.specs.Tree.{Tree, Trees, none, more, pack, unpack, block_stmt, switch_stmt, switch_case, try_stmt, catch_clause, absent}
+use Rattle.tree_spec.proofs.PackLemmas.{pack_unpack}
 use Rattle.grammar_spec.specs.Tokens.Input.{Input, Code, kind, barred, lo, span, rest, in_list, turned_strict, Takes, TakesWord, binding}
 use Rattle.grammar_spec.specs.Tokens.Operators.{expression_level}
 use Rattle.grammar_spec.specs.Tokens.Shape.{level, ends, is_absent, is_item, is_block, is_catch, is_case, is_default_case, is_use_strict, is_directive, is_binding}
@@ -13,15 +14,15 @@ use Rattle.grammar_spec.specs.Statements.{ClosesBlock, ClosesCase, Cases}
 use Rattle.grammar_spec.specs.Grammar.{Produces, children}
 use Rattle.grammar_spec.specs.Reader.Source.{State, go_on, finished}
 use Rattle.grammar_spec.specs.Reader.Statements.{Body as Gathered, block_step, block_rest, block_by, body_item, body_step, body_by, case_step, case_rest, case_by, cases_step, has_default, switch_by, catch_by, finally_by, try_by, in_parens}
-use Rattle.grammar_laws.proofs.complete_base.Yields.{lm, from, len, coded, both, Reads, Is, then_is, then_reads, then_eat, then_word, then_past, here, past_here, ended, if_no, if_yes, Loops, loop_on, loop_end, looped}
-use Rattle.grammar_laws.proofs.complete_rules.Lists.{pack_unpack}
+use Rattle.grammar_laws.proofs.complete_base.Yields.{lm, from, len, coded, Reads, Is, then_is, then_reads, then_eat, then_word, then_past, here, past_here, ended, if_no, if_yes, Loops, loop_on, loop_end, looped}
 use Rattle.grammar_laws.proofs.complete_base.Trees.{by_cases}
 use Rattle.grammar_laws.proofs.complete_rules.Nested.{Nested, may_follow, leaves, follows}
 use Rattle.grammar_laws.proofs.complete_rules.Within.{Each, most, Within, Withins, within, withins}
 use Rattle.grammar_laws.proofs.complete_rules.Follows.{halted, built, lifted}
 use Rattle.grammar_laws.proofs.complete_rules.Starts.{opens_item, item_opens, no_item}
 use Rattle.grammar_laws.proofs.complete_base.Cuts.{item_cut, cut}
-use Rattle.grammar_laws.proofs.complete_rules.Simple.{absent_is, follows_at, one_found, parens_found}
+use Rattle.grammar_laws.proofs.complete_rules.Simple.{follows_at, one_found, parens_found}
+use Rattle.grammar_laws.proofs.Shapes.{strict_directive, absent_is}
 
 -- ---- what follows a statement in a list
 
@@ -44,10 +45,6 @@ case_follows c m n h = ⊎_elim (λ q. follows_at m case_kind (eqb-true (kind m)
 block_brace : (b : Tree) (c : Code) (ts r : Input) → is_block b ≡ true → Produces b c ts r → kind ts ≡ left_brace_kind
 block_brace (block_stmt s ss) c ts r i h = h.1.0
 block_brace _ c ts r i h = absurd (true≢false (sym i))
-
-strict_directive : (t : Tree) → is_use_strict t ≡ true → is_directive t ≡ true
-strict_directive (expr_stmt s (str_lit t u (Some w))) h = refl
-strict_directive _ h = absurd (true≢false (sym h))
 
 module _ (z : Nested) (p : Bool) (c : Code) where
   -- ---- 14.2 blocks
@@ -225,7 +222,7 @@ module _ (z : Nested) (p : Bool) (c : Code) where
       ends_by j = lifted (finally_found ts k s b x f h.2 r j g.2 h.3 h.7 h.8 q) (λ u. omega arith)
 
       no_catch : is_absent x ≡ true → h.1 ≡ h.2 → eqb (kind h.1) catch_kind ≡ false
-      no_catch e y = by_cases (is_absent f) _ _ _ h.7 (λ d v. absurd (true≢false (sym (both (is_absent x) (is_absent f) e d) ∙ h.3))) (λ d v. subst (λ (m : Input). eqb (kind m) catch_kind ≡ false) (sym y) (subst (λ (k : ℕ). eqb k catch_kind ≡ false) (sym v.1.0) refl))
+      no_catch e y = by_cases (is_absent f) _ _ _ h.7 (λ d v. absurd (true≢false (sym (and_from (is_absent x) (is_absent f) e d) ∙ h.3))) (λ d v. subst (λ (m : Input). eqb (kind m) catch_kind ≡ false) (sym y) (subst (λ (k : ℕ). eqb k catch_kind ≡ false) (sym v.1.0) refl))
 
 -- ---- bodies
 

@@ -1,9 +1,11 @@
 -- What one operator after an expression is read as.
 use Rattle.std.proofs.Common.{◌≡◌, ℕ, ◌≤◌, true, false, not, ◌&&◌, ◌==◌, eqb, leb, List, refl, sym, ap, ◌∙◌, subst, true≢false}
 use Rattle.std.proofs.lemmas.Bool.{ne_eqb, le-leb, and_left, and_from}
+use Rattle.base_proofs.proofs.Bools.{cond_second}
 use Rattle.base_token.specs.declared.place.Span.{Span}
 use Rattle.base_token.specs.Kinds.{comma_kind, dot_kind, question_mark_kind, colon_kind, left_paren_kind, left_bracket_kind, right_bracket_kind, right_paren_kind, hash_kind}
 use Rattle.tree_spec.specs.Tree.{Tree, Trees, pack, unpack, bin_expr, cond_expr, update_expr, member_expr, call_expr, computed_prop_name, ident_name}
+use Rattle.tree_spec.proofs.PackLemmas.{pack_unpack}
 use Rattle.grammar_spec.specs.Tokens.Input.{Input, Code, kind, kind2, brk, lo, text, rest, span, is_word, barred, with_in}
 use Rattle.grammar_spec.specs.Tokens.Operators.{right_level, operates, is_assign_op, assignment_level, expression_level}
 use Rattle.grammar_spec.specs.Tokens.Shape.{level, fits_left, is_chain}
@@ -11,9 +13,9 @@ use Rattle.grammar_spec.specs.Expressions.{is_update_op}
 use Rattle.grammar_spec.specs.Reader.Source.{State, Inner}
 use Rattle.grammar_spec.specs.Reader.Expressions.{step_by, binary_by, cond_by, computed_by, index_by, member_by, member_name, call_by, arguments_by, elements_by}
 use Rattle.grammar_laws.proofs.complete_base.Yields.{lm, from, then_reads, Is, then_is, then_eat, then_word, then_any, Reads, here, past_here, ended, if_no, if_yes, then_past}
-use Rattle.grammar_laws.proofs.complete_base.Levels.{operated, not_binary, not_assign, cond_no}
+use Rattle.grammar_laws.proofs.complete_base.Levels.{operated, not_binary, not_assign}
 use Rattle.grammar_laws.proofs.complete_base.Trees.{by_update}
-use Rattle.grammar_laws.proofs.complete_rules.Lists.{Has, pack_unpack}
+use Rattle.grammar_laws.proofs.complete_rules.Lists.{Has}
 
 module _ (inner : Inner Input) (c : Code) (start : State Input) (a : Tree) (m : Input) (j : List ℕ) (V : Tree × State Input → Type 0) (Q : Type 0) where
   pub step_binary : operates c (kind m) ≡ true → fits_left (kind m) a ≡ true → Reads (from m j) (binary_by lm inner c start a (from m j)) V Q → Reads (from m j) (step_by lm inner c start a (from m j)) V Q
@@ -73,17 +75,17 @@ module _ (inner : Inner Input) (c : Code) (ts : Input) (k : List ℕ) (a : Tree)
       → t ≡ span (lo m) r.last → s ≡ span (lo ts) r.last → Reads (from m j) (index_by lm inner c (from ts k) a (from m j)) (Is (member_expr s a (computed_prop_name t e)) r) Q
   unfolding index_by
   index_found s t e n o r P w q y i x v u p = then_is (computed_by lm inner c expression_level (from m j)) _ (computed_prop_name t e) r Q _ Q (computed_found expression_level t e n o r P q y i x v u) (λ z. z)
-      (λ l. here (cond_no (is_chain a) _ _ _ w (ap (λ (z : Span). member_expr z a (computed_prop_name t e)) (sym p))))
+      (λ l. here (cond_second (is_chain a) _ _ _ w (ap (λ (z : Span). member_expr z a (computed_prop_name t e)) (sym p))))
 
   pub named_found : (s t : Span) (x : List ℕ) (n r : Input) → is_chain a ≡ false → rest m ≡ n → is_word (kind n) ≡ true → text n ≡ x → rest n ≡ r → t ≡ span (lo n) r.last → s ≡ span (lo ts) r.last
       → Reads (from m j) (member_by lm inner c (from ts k) a (from m j)) (Is (member_expr s a (ident_name t x)) r) Q
   unfolding member_by member_name
   named_found s t x n r w q i e v u p = then_past m n j (member_name lm inner true) _ (ident_name t x) r Q _ Q q
       (if_no (eqb (kind n) hash_kind) _ _ _ _ (ne_eqb (kind n) hash_kind (λ z. true≢false (sym i ∙ ap is_word z))) (then_any n r x j _ _ _ i e v (here (ap (λ (z : Span). ident_name z x) (ap (λ (y : Input). span (lo n) y.last) v ∙ sym u))))) (λ z. z)
-      (λ l. here (cond_no (is_chain a) _ _ _ w (ap (λ (z : Span). member_expr z a (ident_name t x)) (sym p))))
+      (λ l. here (cond_second (is_chain a) _ _ _ w (ap (λ (z : Span). member_expr z a (ident_name t x)) (sym p))))
 
   pub call_found : (s : Span) (xs : Trees) (n r : Input) (P : Type 0) → is_chain a ≡ false → rest m ≡ n → ((h : List ℕ) → Reads (from n h) (elements_by lm inner c false right_paren_kind (from n h)) (Has (unpack xs) r) P) → (P → Q) → s ≡ span (lo ts) r.last
       → Reads (from m j) (call_by lm inner c (from ts k) a (from m j)) (Is (call_expr s a xs) r) Q
   unfolding call_by arguments_by
   call_found s xs n r P w q y i p = then_past m n j (arguments_by lm inner c) _ (unpack xs) r P _ Q q (then_reads _ _ _ P _ P (y j) (λ z. z) (λ x h. ended (x.0.items, x.1) _ P h)) i
-      (λ l. here (cond_no (is_chain a) _ _ _ w (ap (λ (z : Span). call_expr z a (pack (unpack xs))) (sym p) ∙ ap (λ (ys : Trees). call_expr s a ys) (pack_unpack xs))))
+      (λ l. here (cond_second (is_chain a) _ _ _ w (ap (λ (z : Span). call_expr z a (pack (unpack xs))) (sym p) ∙ ap (λ (ys : Trees). call_expr s a ys) (pack_unpack xs))))

@@ -5,6 +5,7 @@ use Rattle.base_token.specs.declared.context.Context.{Context}
 use Rattle.base_token.specs.declared.place.Span.{Span}
 use Rattle.base_token.specs.Kinds.{end_kind, await_kind, var_kind, let_kind, const_kind, left_bracket_kind, comma_kind, semicolon_kind, right_brace_kind, assign_kind, using_kind}
 use Rattle.tree_spec.specs.Tree.{Tree, Trees, none, more, unpack, var_decl, using_decl, var_declarator, absent}
+use Rattle.tree_spec.proofs.PackLemmas.{pack_unpack}
 use Rattle.grammar_spec.specs.Tokens.Input.{Input, Code, kind, kind2, brk, lo, span, rest, barred, binding}
 use Rattle.grammar_spec.specs.Tokens.Operators.{assignment_level, goes_expr, goes_on, binding_end, may_name}
 use Rattle.grammar_spec.specs.Tokens.Shape.{level, ends, is_absent, is_declarator, declarator_end, declarators_end}
@@ -15,14 +16,14 @@ use Rattle.grammar_spec.specs.Reader.Source.{◌>>=◌, Inner, go_on, finished, 
 use Rattle.grammar_spec.specs.Reader.Statements.{declarator_by, declarator_step, declarators_by, variables_by, using_by, starts_let, starts_using, starts_await_using}
 use Rattle.grammar_laws.proofs.complete_base.Yields.{lm, from, len, coded, Reads, Is, then_is, then_word, then_past, here, past_here, ended, if_no, if_yes, Loops, loop_on, loop_end, looped}
 use Rattle.grammar_laws.proofs.complete_base.Levels.{Follow, quiet, ends_operand, comma_after, goes_comma}
-use Rattle.grammar_laws.proofs.complete_rules.Lists.{pack_unpack, two_asked}
+use Rattle.grammar_laws.proofs.complete_rules.Lists.{two_asked}
 use Rattle.grammar_laws.proofs.complete_base.Trees.{by_cases, takes}
 use Rattle.grammar_laws.proofs.complete_rules.Nested.{Nested}
 use Rattle.grammar_laws.proofs.complete_rules.Within.{Within, Withins, within, withins}
 use Rattle.grammar_laws.proofs.complete_rules.Follows.{calm_line, halts, halted, ends_two, low_goes, then_end}
 use Rattle.grammar_laws.proofs.complete_base.Cuts.{cut}
-use Rattle.grammar_laws.proofs.complete_rules.Simple.{absent_is}
 use Rattle.grammar_laws.proofs.complete_rules.Starts.{Opening, After, Names, named_after, one_name, tame, starts_binding, binding_starts}
+use Rattle.grammar_laws.proofs.Shapes.{absent_is}
 
 -- ---- what follows a declarator
 

@@ -4,6 +4,7 @@ use Rattle.std.proofs.lemmas.Bool.{ne_eqb, eq-eqb, and_from, and_parts, or_from,
 use Rattle.base_token.specs.declared.place.Span.{Span}
 use Rattle.base_token.specs.Kinds.{dot_kind, left_paren_kind, left_bracket_kind, right_paren_kind, mul_kind, new_kind, super_kind, import_kind, yield_kind, meta_kind, target_kind}
 use Rattle.tree_spec.specs.Tree.{Tree, Trees, none, more, pack, unpack, call_expr, super_prop_expr, computed_prop_name, ident_name, meta_prop_expr, yield_expr, super, import, absent}
+use Rattle.tree_spec.proofs.PackLemmas.{pack_unpack}
 use Rattle.grammar_spec.specs.Tokens.Input.{Input, Code, TakesWord, kind, brk, lo, rest, span, first_span, barred, with_in}
 use Rattle.grammar_spec.specs.Tokens.Operators.{expression_level, assignment_level}
 use Rattle.grammar_spec.specs.Tokens.Shape.{is_spread}
@@ -16,7 +17,7 @@ use Rattle.grammar_spec.specs.Reader.Reading.{readers}
 use Rattle.grammar_laws.proofs.complete_base.Yields.{lm, from, coded, reads_map, first_at, Reads, then_reads, Is, then_is, then_past, onto, then_eat, then_word, then_any, here, ended, if_no, if_yes, loop_end, looped}
 use Rattle.grammar_laws.proofs.complete_base.Levels.{quits, ends_operand}
 use Rattle.grammar_laws.proofs.complete_base.Trees.{CoveredAll, sizes, reach, reaches, begins, no_kind, by_cases}
-use Rattle.grammar_laws.proofs.complete_rules.Lists.{Finds, pack_unpack, elements_found, step_close}
+use Rattle.grammar_laws.proofs.complete_rules.Lists.{Finds, elements_found, step_close}
 use Rattle.grammar_laws.proofs.complete_rules.Steps.{computed_found}
 use Rattle.grammar_laws.proofs.complete_rules.Members.{Lists, listed, no_more}
 

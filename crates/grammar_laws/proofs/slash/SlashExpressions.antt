@@ -10,7 +10,8 @@ use Rattle.grammar_spec.specs.Reader.Source.{Fault, placed, unexpected, ◌>>=�
 use Rattle.grammar_spec.specs.Reader.Cover.{last_rests}
 use Rattle.grammar_spec.specs.Reader.Expressions.{first, literal_by, element_by, after_element, element_step, elements_by, array_by, computed_by, key_by, private_by, parameter_by, is_rest_param, parameter_step, parameters_by, function_by, setter_parameter, is_accessor, is_async_head, star, method_prop_by, getter_by, setter_by, prop_rest, prop_by, prop_step, object_by, quasi, quasi_end, quasi_step, template_by, arrows_at, heads_params, is_async_param, arrow_by, params_of, group_end, group_by, ident_end, arguments_by, async_group, function_expr_name, function_expr_by, async_by, class_expr_by, new_end, callee_by, new_by, super_end, fits_import, import_by, unary_by, update_by, await_by, ends_yield, yield_end, yield_by, word_by, fixed, keyword_by, prefix_by, member_name, on_chain, member_by, index_by, call_tree, call_by, chain_by, cond_by, assign_by, binary_by, step_by, loop_step, loop_by, private_in, expr_from, expr_by, Elements, Spans, literal, joined, last_end, plain_elements, no_elements, is_unary, extended}
 use Rattle.std.proofs.lemmas.Bool.{lt-ltb, ltb-true}
-use Rattle.grammar_laws.proofs.slash.Twins.{lm, Parting, regexps, slashes, slashes_by, on, Twins, twin_ok, never, unanswered, twin_then, twin_if, twin_no, cut, parted, same, Plain, plain_at, lo_same, no_and, no_fourth, eat_on, eat_at, eat_none, word_on, word_at, word_none, name_on, name_none, placed_on, any_on, any_at, any_none, twin_placed, iterate_twin, Told}
+use Rattle.base_proofs.proofs.Bools.{not_and_false}
+use Rattle.grammar_laws.proofs.slash.Twins.{lm, Parting, regexps, slashes, slashes_by, on, Twins, twin_ok, never, unanswered, twin_then, twin_if, twin_no, cut, parted, same, Plain, plain_at, lo_same, no_fourth, eat_on, eat_at, eat_none, word_on, word_at, word_none, name_on, name_none, placed_on, any_on, any_at, any_none, twin_placed, iterate_twin, Told}
 
 module _ (w : Parting) (inner : Inner Input) (told : Told w inner) where
   pub literal_by_twin : (o : List ℕ) (n : ℕ) (l : List PlacedToken) → Twins w (literal_by lm inner (on o n (l ++ regexps w))) (literal_by lm inner (on o n (l ++ slashes w)))
@@ -34,7 +35,7 @@ module _ (w : Parting) (inner : Inner Input) (told : Told w inner) where
 
   pub element_step_twin : (c : Code) (holes : Bool) (close : ℕ) (shut : Plain w close) (xs : Elements) (o : List ℕ) (n : ℕ) (l : List PlacedToken) → Twins w (element_step lm inner c holes close xs (on o n ((l ++ regexps w)))) (element_step lm inner c holes close xs (on o n ((l ++ slashes w))))
   unfolding element_step
-  element_step_twin c holes close shut xs o n [] = twin_if w (at lm close (on o n (regexps w))) (at lm close (on o n (slashes w))) (plain_at w close shut o n []) _ _ _ _ (λ yes. absurd (true≢false (sym yes ∙ shut.0))) (λ no. twin_if w (holes && at lm comma_kind (on o n (regexps w))) (holes && at lm comma_kind (on o n (slashes w))) (parted w (λ z. holes && at lm comma_kind (on o n z)) refl refl) _ _ _ _ (λ yes. absurd (no_and w _ yes)) (λ no. twin_then w _ _ _ _ (element_by_twin c o n []) (λ ev eo en el. after_element_twin close shut (xs.items ++ ev ∷ []) eo en el)))
+  element_step_twin c holes close shut xs o n [] = twin_if w (at lm close (on o n (regexps w))) (at lm close (on o n (slashes w))) (plain_at w close shut o n []) _ _ _ _ (λ yes. absurd (true≢false (sym yes ∙ shut.0))) (λ no. twin_if w (holes && at lm comma_kind (on o n (regexps w))) (holes && at lm comma_kind (on o n (slashes w))) (parted w (λ z. holes && at lm comma_kind (on o n z)) refl refl) _ _ _ _ (λ yes. absurd (not_and_false _ yes)) (λ no. twin_then w _ _ _ _ (element_by_twin c o n []) (λ ev eo en el. after_element_twin close shut (xs.items ++ ev ∷ []) eo en el)))
   element_step_twin c holes close shut xs o n (p ∷ l) = twin_if w (at lm close (on o n (p ∷ (l ++ regexps w)))) (at lm close (on o n (p ∷ (l ++ slashes w)))) refl _ _ _ _ (λ yes. twin_ok w _ _ o p.spot.hi l refl) (λ no. twin_if w (holes && at lm comma_kind (on o n (p ∷ (l ++ regexps w)))) (holes && at lm comma_kind (on o n (p ∷ (l ++ slashes w)))) refl _ _ _ _ (λ yes. twin_ok w _ _ o p.spot.hi l refl) (λ no. twin_then w _ _ _ _ (element_by_twin c o n (p ∷ l)) (λ ev eo en el. after_element_twin close shut (xs.items ++ ev ∷ []) eo en el)))
 
   pub elements_by_twin : (c : Code) (holes : Bool) (close : ℕ) (shut : Plain w close) (o : List ℕ) (n : ℕ) (l : List PlacedToken) → Twins w (elements_by lm inner c holes close (on o n ((l ++ regexps w)))) (elements_by lm inner c holes close (on o n ((l ++ slashes w))))
@@ -309,7 +310,7 @@ module _ (w : Parting) (inner : Inner Input) (told : Told w inner) where
 
   pub step_by_twin : (c : Code) (starto : List ℕ) (startn : ℕ) (startl : List PlacedToken) (t : Tree) (o : List ℕ) (n : ℕ) (p : PlacedToken) (l : List PlacedToken) → Twins w (step_by lm inner c (on starto startn ((startl ++ regexps w))) t (on o n (p ∷ (l ++ regexps w)))) (step_by lm inner c (on starto startn ((startl ++ slashes w))) t (on o n (p ∷ (l ++ slashes w))))
   unfolding step_by
-  step_by_twin c starto startn startl t o n p [] = twin_if w (at lm comma_kind (on o n (p ∷ regexps w))) (at lm comma_kind (on o n (p ∷ slashes w))) refl _ _ _ _ (λ yes. twin_then w _ _ _ _ (told.expr c assignment_level o p.spot.hi []) (λ ev eo en el. twin_ok w _ _ eo en el (ap (λ (z : ℕ). extended t ev (span z en)) (lo_same w starto startn startl)))) (λ no. twin_if w (is_assign_op (kind (input lm (on o n (p ∷ regexps w))))) (is_assign_op (kind (input lm (on o n (p ∷ slashes w))))) refl _ _ _ _ (λ yes. assign_by_twin c starto startn startl t o n p []) (λ no. twin_if w (at lm question_mark_kind (on o n (p ∷ regexps w)) && (kind2 (input lm (on o n (p ∷ regexps w))) == dot_kind)) (at lm question_mark_kind (on o n (p ∷ slashes w)) && (kind2 (input lm (on o n (p ∷ slashes w))) == dot_kind)) (parted w (λ z. at lm question_mark_kind (on o n (p ∷ z)) && (kind2 (input lm (on o n (p ∷ z))) == dot_kind)) refl refl) _ _ _ _ (λ yes. absurd (no_and w _ yes)) (λ no. twin_if w (at lm question_mark_kind (on o n (p ∷ regexps w))) (at lm question_mark_kind (on o n (p ∷ slashes w))) refl _ _ _ _ (λ yes. twin_if w (nat_le coalesce_level (level t)) (nat_le coalesce_level (level t)) refl _ _ _ _ (λ yes. cond_by_twin c starto startn startl t o n p []) (λ no. never w _ _)) (λ no. twin_if w (operates c (kind (input lm (on o n (p ∷ regexps w))))) (operates c (kind (input lm (on o n (p ∷ slashes w))))) refl _ _ _ _ (λ yes. twin_if w (fits_left (kind (input lm (on o n (p ∷ regexps w)))) t) (fits_left (kind (input lm (on o n (p ∷ slashes w)))) t) refl _ _ _ _ (λ yes. binary_by_twin c starto startn startl t o n p []) (λ no. never w _ _)) (λ no. twin_if w (between plus_plus_kind minus_minus_kind (kind (input lm (on o n (p ∷ regexps w))))) (between plus_plus_kind minus_minus_kind (kind (input lm (on o n (p ∷ slashes w))))) refl _ _ _ _ (λ yes. twin_if w (nat_le new_level (level t) && not (brk (input lm (on o n (p ∷ regexps w))))) (nat_le new_level (level t) && not (brk (input lm (on o n (p ∷ slashes w))))) refl _ _ _ _ (λ yes. twin_ok w _ _ o p.spot.hi [] (ap (λ (z : ℕ). update_expr (span z p.spot.hi) (kind (input lm (on o n (p ∷ regexps w)))) false t) (lo_same w starto startn startl))) (λ no. never w _ _)) (λ no. twin_if w (not (nat_le call_level (level t))) (not (nat_le call_level (level t))) refl _ _ _ _ (λ yes. never w _ _) (λ no. twin_if w (at lm left_paren_kind (on o n (p ∷ regexps w))) (at lm left_paren_kind (on o n (p ∷ slashes w))) refl _ _ _ _ (λ yes. call_by_twin c starto startn startl t o n p []) (λ no. twin_if w (at lm left_bracket_kind (on o n (p ∷ regexps w))) (at lm left_bracket_kind (on o n (p ∷ slashes w))) refl _ _ _ _ (λ yes. index_by_twin c starto startn startl t o n p []) (λ no. twin_if w (at lm dot_kind (on o n (p ∷ regexps w))) (at lm dot_kind (on o n (p ∷ slashes w))) refl _ _ _ _ (λ yes. member_by_twin c starto startn startl t o n p []) (λ no. twin_if w (at lm back_quote_kind (on o n (p ∷ regexps w)) && not (is_chain t)) (at lm back_quote_kind (on o n (p ∷ slashes w)) && not (is_chain t)) refl _ _ _ _ (λ yes. twin_then w _ _ _ _ (template_by_twin c true o n p []) (λ qv qo qn ql. twin_ok w _ _ qo qn ql (ap (λ (z : ℕ). tagged_tpl (span z qn) t qv) (lo_same w starto startn startl)))) (λ no. never w _ _)))))))))))
+  step_by_twin c starto startn startl t o n p [] = twin_if w (at lm comma_kind (on o n (p ∷ regexps w))) (at lm comma_kind (on o n (p ∷ slashes w))) refl _ _ _ _ (λ yes. twin_then w _ _ _ _ (told.expr c assignment_level o p.spot.hi []) (λ ev eo en el. twin_ok w _ _ eo en el (ap (λ (z : ℕ). extended t ev (span z en)) (lo_same w starto startn startl)))) (λ no. twin_if w (is_assign_op (kind (input lm (on o n (p ∷ regexps w))))) (is_assign_op (kind (input lm (on o n (p ∷ slashes w))))) refl _ _ _ _ (λ yes. assign_by_twin c starto startn startl t o n p []) (λ no. twin_if w (at lm question_mark_kind (on o n (p ∷ regexps w)) && (kind2 (input lm (on o n (p ∷ regexps w))) == dot_kind)) (at lm question_mark_kind (on o n (p ∷ slashes w)) && (kind2 (input lm (on o n (p ∷ slashes w))) == dot_kind)) (parted w (λ z. at lm question_mark_kind (on o n (p ∷ z)) && (kind2 (input lm (on o n (p ∷ z))) == dot_kind)) refl refl) _ _ _ _ (λ yes. absurd (not_and_false _ yes)) (λ no. twin_if w (at lm question_mark_kind (on o n (p ∷ regexps w))) (at lm question_mark_kind (on o n (p ∷ slashes w))) refl _ _ _ _ (λ yes. twin_if w (nat_le coalesce_level (level t)) (nat_le coalesce_level (level t)) refl _ _ _ _ (λ yes. cond_by_twin c starto startn startl t o n p []) (λ no. never w _ _)) (λ no. twin_if w (operates c (kind (input lm (on o n (p ∷ regexps w))))) (operates c (kind (input lm (on o n (p ∷ slashes w))))) refl _ _ _ _ (λ yes. twin_if w (fits_left (kind (input lm (on o n (p ∷ regexps w)))) t) (fits_left (kind (input lm (on o n (p ∷ slashes w)))) t) refl _ _ _ _ (λ yes. binary_by_twin c starto startn startl t o n p []) (λ no. never w _ _)) (λ no. twin_if w (between plus_plus_kind minus_minus_kind (kind (input lm (on o n (p ∷ regexps w))))) (between plus_plus_kind minus_minus_kind (kind (input lm (on o n (p ∷ slashes w))))) refl _ _ _ _ (λ yes. twin_if w (nat_le new_level (level t) && not (brk (input lm (on o n (p ∷ regexps w))))) (nat_le new_level (level t) && not (brk (input lm (on o n (p ∷ slashes w))))) refl _ _ _ _ (λ yes. twin_ok w _ _ o p.spot.hi [] (ap (λ (z : ℕ). update_expr (span z p.spot.hi) (kind (input lm (on o n (p ∷ regexps w)))) false t) (lo_same w starto startn startl))) (λ no. never w _ _)) (λ no. twin_if w (not (nat_le call_level (level t))) (not (nat_le call_level (level t))) refl _ _ _ _ (λ yes. never w _ _) (λ no. twin_if w (at lm left_paren_kind (on o n (p ∷ regexps w))) (at lm left_paren_kind (on o n (p ∷ slashes w))) refl _ _ _ _ (λ yes. call_by_twin c starto startn startl t o n p []) (λ no. twin_if w (at lm left_bracket_kind (on o n (p ∷ regexps w))) (at lm left_bracket_kind (on o n (p ∷ slashes w))) refl _ _ _ _ (λ yes. index_by_twin c starto startn startl t o n p []) (λ no. twin_if w (at lm dot_kind (on o n (p ∷ regexps w))) (at lm dot_kind (on o n (p ∷ slashes w))) refl _ _ _ _ (λ yes. member_by_twin c starto startn startl t o n p []) (λ no. twin_if w (at lm back_quote_kind (on o n (p ∷ regexps w)) && not (is_chain t)) (at lm back_quote_kind (on o n (p ∷ slashes w)) && not (is_chain t)) refl _ _ _ _ (λ yes. twin_then w _ _ _ _ (template_by_twin c true o n p []) (λ qv qo qn ql. twin_ok w _ _ qo qn ql (ap (λ (z : ℕ). tagged_tpl (span z qn) t qv) (lo_same w starto startn startl)))) (λ no. never w _ _)))))))))))
   step_by_twin c starto startn startl t o n p (p2 ∷ l) = twin_if w (at lm comma_kind (on o n (p ∷ p2 ∷ (l ++ regexps w)))) (at lm comma_kind (on o n (p ∷ p2 ∷ (l ++ slashes w)))) refl _ _ _ _ (λ yes. twin_then w _ _ _ _ (told.expr c assignment_level o p.spot.hi (p2 ∷ l)) (λ ev eo en el. twin_ok w _ _ eo en el (ap (λ (z : ℕ). extended t ev (span z en)) (lo_same w starto startn startl)))) (λ no. twin_if w (is_assign_op (kind (input lm (on o n (p ∷ p2 ∷ (l ++ regexps w)))))) (is_assign_op (kind (input lm (on o n (p ∷ p2 ∷ (l ++ slashes w)))))) refl _ _ _ _ (λ yes. assign_by_twin c starto startn startl t o n p (p2 ∷ l)) (λ no. twin_if w (at lm question_mark_kind (on o n (p ∷ p2 ∷ (l ++ regexps w))) && (kind2 (input lm (on o n (p ∷ p2 ∷ (l ++ regexps w)))) == dot_kind)) (at lm question_mark_kind (on o n (p ∷ p2 ∷ (l ++ slashes w))) && (kind2 (input lm (on o n (p ∷ p2 ∷ (l ++ slashes w)))) == dot_kind)) refl _ _ _ _ (λ yes. twin_if w (nat_le call_level (level t)) (nat_le call_level (level t)) refl _ _ _ _ (λ yes. chain_by_twin c starto startn startl t o p2.spot.hi l) (λ no. never w _ _)) (λ no. twin_if w (at lm question_mark_kind (on o n (p ∷ p2 ∷ (l ++ regexps w)))) (at lm question_mark_kind (on o n (p ∷ p2 ∷ (l ++ slashes w)))) refl _ _ _ _ (λ yes. twin_if w (nat_le coalesce_level (level t)) (nat_le coalesce_level (level t)) refl _ _ _ _ (λ yes. cond_by_twin c starto startn startl t o n p (p2 ∷ l)) (λ no. never w _ _)) (λ no. twin_if w (operates c (kind (input lm (on o n (p ∷ p2 ∷ (l ++ regexps w)))))) (operates c (kind (input lm (on o n (p ∷ p2 ∷ (l ++ slashes w)))))) refl _ _ _ _ (λ yes. twin_if w (fits_left (kind (input lm (on o n (p ∷ p2 ∷ (l ++ regexps w))))) t) (fits_left (kind (input lm (on o n (p ∷ p2 ∷ (l ++ slashes w))))) t) refl _ _ _ _ (λ yes. binary_by_twin c starto startn startl t o n p (p2 ∷ l)) (λ no. never w _ _)) (λ no. twin_if w (between plus_plus_kind minus_minus_kind (kind (input lm (on o n (p ∷ p2 ∷ (l ++ regexps w)))))) (between plus_plus_kind minus_minus_kind (kind (input lm (on o n (p ∷ p2 ∷ (l ++ slashes w)))))) refl _ _ _ _ (λ yes. twin_if w (nat_le new_level (level t) && not (brk (input lm (on o n (p ∷ p2 ∷ (l ++ regexps w)))))) (nat_le new_level (level t) && not (brk (input lm (on o n (p ∷ p2 ∷ (l ++ slashes w)))))) refl _ _ _ _ (λ yes. twin_ok w _ _ o p.spot.hi (p2 ∷ l) (ap (λ (z : ℕ). update_expr (span z p.spot.hi) (kind (input lm (on o n (p ∷ p2 ∷ (l ++ regexps w))))) false t) (lo_same w starto startn startl))) (λ no. never w _ _)) (λ no. twin_if w (not (nat_le call_level (level t))) (not (nat_le call_level (level t))) refl _ _ _ _ (λ yes. never w _ _) (λ no. twin_if w (at lm left_paren_kind (on o n (p ∷ p2 ∷ (l ++ regexps w)))) (at lm left_paren_kind (on o n (p ∷ p2 ∷ (l ++ slashes w)))) refl _ _ _ _ (λ yes. call_by_twin c starto startn startl t o n p (p2 ∷ l)) (λ no. twin_if w (at lm left_bracket_kind (on o n (p ∷ p2 ∷ (l ++ regexps w)))) (at lm left_bracket_kind (on o n (p ∷ p2 ∷ (l ++ slashes w)))) refl _ _ _ _ (λ yes. index_by_twin c starto startn startl t o n p (p2 ∷ l)) (λ no. twin_if w (at lm dot_kind (on o n (p ∷ p2 ∷ (l ++ regexps w)))) (at lm dot_kind (on o n (p ∷ p2 ∷ (l ++ slashes w)))) refl _ _ _ _ (λ yes. member_by_twin c starto startn startl t o n p (p2 ∷ l)) (λ no. twin_if w (at lm back_quote_kind (on o n (p ∷ p2 ∷ (l ++ regexps w))) && not (is_chain t)) (at lm back_quote_kind (on o n (p ∷ p2 ∷ (l ++ slashes w))) && not (is_chain t)) refl _ _ _ _ (λ yes. twin_then w _ _ _ _ (template_by_twin c true o n p (p2 ∷ l)) (λ qv qo qn ql. twin_ok w _ _ qo qn ql (ap (λ (z : ℕ). tagged_tpl (span z qn) t qv) (lo_same w starto startn startl)))) (λ no. never w _ _)))))))))))
 
   -- Where they part, nothing goes on with a regular expression.

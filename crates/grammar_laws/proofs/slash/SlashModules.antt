@@ -1,5 +1,6 @@
 -- Scripts and modules (ECMA-262, clause 16): their rules over two such lists.
 use Rattle.std.proofs.Common.{ℕ, Bool, true, false, not, ◌&&◌, ◌||◌, ◌==◌, if◌then◌else◌, List, [], ◌∷◌, ◌++◌, Option, Some, None, Ok, refl, ap}
+use Rattle.base_proofs.proofs.Bools.{not_and_false}
 use Rattle.base_token.specs.Kinds.{left_brace_kind, right_brace_kind, comma_kind, mul_kind, str_kind, shebang_kind, default_kind, function_kind, with_kind, class_kind, export_kind, import_kind, as_kind, assert_kind, from_kind}
 use Rattle.tree_spec.specs.Tree.{Tree, none, more, pack, import_decl, named_export, export_default_decl, export_default_expr, export_all, import_default_specifier, export_namespace_specifier, absent}
 use Rattle.grammar_spec.specs.Tokens.Input.{PlacedToken, Input, span, Code, kind, brk, is_word, in_list}
@@ -10,7 +11,7 @@ use Rattle.grammar_spec.specs.Reader.Expressions.{first}
 use Rattle.grammar_spec.specs.Reader.Statements.{Body, starts_async}
 use Rattle.grammar_spec.specs.Reader.Modules.{string_by, export_name_by, local_by, attributes_by, source_by, named_import, named_export_item, specifier_step, specifiers_by, star_import, import_end, import_rest, import_default, import_decl_by, export_default, export_star, export_list, starts_declaration, export_by, starts_import, item_by, program_item, program_step, line_of, program_tree, program_rest, program_by}
 use Rattle.grammar_laws.proofs.slash.SlashExpressions.{literal_by_twin, object_by_twin, function_expr_by_twin, class_expr_by_twin}
-use Rattle.grammar_laws.proofs.slash.Twins.{lm, Parting, regexps, slashes, on, Twins, twin_ok, never, twin_then, twin_found, twin_if, twin_no, cut, parted, same, lo_same, no_and, eat_on, eat_at, eat_none, word_on, word_at, word_none, name_on, name_none, any_on, any_none, end_at, iterate_twin, Told}
+use Rattle.grammar_laws.proofs.slash.Twins.{lm, Parting, regexps, slashes, on, Twins, twin_ok, never, twin_then, twin_found, twin_if, twin_no, cut, parted, same, lo_same, eat_on, eat_at, eat_none, word_on, word_at, word_none, name_on, name_none, any_on, any_none, end_at, iterate_twin, Told}
 
 module _ (w : Parting) (inner : Inner Input) (told : Told w inner) where
   pub string_by_twin : (o : List ℕ) (n : ℕ) (l : List PlacedToken) → Twins w (string_by lm inner (on o n ((l ++ regexps w)))) (string_by lm inner (on o n ((l ++ slashes w))))
@@ -34,7 +35,7 @@ module _ (w : Parting) (inner : Inner Input) (told : Told w inner) where
 
   pub source_by_twin : (c : Code) (o1 : List ℕ) (n : ℕ) (l : List PlacedToken) → Twins w (source_by lm inner c (on o1 n ((l ++ regexps w)))) (source_by lm inner c (on o1 n ((l ++ slashes w))))
   unfolding source_by
-  source_by_twin c o1 n l = twin_then w _ _ _ _ (string_by_twin o1 n l) (λ fv fo fn fl. cut w (λ z. Twins w (if c.syntax.import_attributes && (at lm with_kind (on fo fn ((z ++ regexps w))) || (at lm assert_kind (on fo fn ((z ++ regexps w))) && not (brk (input lm (on fo fn ((z ++ regexps w))))))) then (eat_word lm c (kind (input lm (on fo fn ((z ++ regexps w))))) (on fo fn ((z ++ regexps w))) >>= λ w. attributes_by lm inner c w >>= λ o. end_of lm c plain_end o.1 >>= λ e. Ok (record { src = fv; with_ = o.0 }, e)) else (end_of lm c source_end (on fo fn ((z ++ regexps w))) >>= λ e. Ok (record { src = fv; with_ = absent }, e))) (if c.syntax.import_attributes && (at lm with_kind (on fo fn ((z ++ slashes w))) || (at lm assert_kind (on fo fn ((z ++ slashes w))) && not (brk (input lm (on fo fn ((z ++ slashes w))))))) then (eat_word lm c (kind (input lm (on fo fn ((z ++ slashes w))))) (on fo fn ((z ++ slashes w))) >>= λ w. attributes_by lm inner c w >>= λ o. end_of lm c plain_end o.1 >>= λ e. Ok (record { src = fv; with_ = o.0 }, e)) else (end_of lm c source_end (on fo fn ((z ++ slashes w))) >>= λ e. Ok (record { src = fv; with_ = absent }, e)))) fl (twin_if w (c.syntax.import_attributes && (at lm with_kind (on fo fn (regexps w)) || (at lm assert_kind (on fo fn (regexps w)) && not (brk (input lm (on fo fn (regexps w))))))) (c.syntax.import_attributes && (at lm with_kind (on fo fn (slashes w)) || (at lm assert_kind (on fo fn (slashes w)) && not (brk (input lm (on fo fn (slashes w))))))) (parted w (λ z. c.syntax.import_attributes && (at lm with_kind (on fo fn z) || (at lm assert_kind (on fo fn z) && not (brk (input lm (on fo fn z)))))) refl refl) _ _ _ _ (λ yes. absurd (no_and w _ yes)) (λ no. end_at w c source_end fo fn [] _ _ (λ en el. twin_ok w _ _ fo en el refl))) (λ fp fq. twin_if w (c.syntax.import_attributes && (at lm with_kind (on fo fn (fp ∷ (fq ++ regexps w))) || (at lm assert_kind (on fo fn (fp ∷ (fq ++ regexps w))) && not (brk (input lm (on fo fn (fp ∷ (fq ++ regexps w)))))))) (c.syntax.import_attributes && (at lm with_kind (on fo fn (fp ∷ (fq ++ slashes w))) || (at lm assert_kind (on fo fn (fp ∷ (fq ++ slashes w))) && not (brk (input lm (on fo fn (fp ∷ (fq ++ slashes w)))))))) refl _ _ _ _ (λ yes. word_on w c (kind (input lm (on fo fn (fp ∷ (fq ++ regexps w))))) fo fn fp fq _ _ (twin_then w _ _ _ _ (attributes_by_twin c fo fp.spot.hi fq) (λ ov oo on1 ol. end_at w c plain_end oo on1 ol _ _ (λ en el. twin_ok w _ _ oo en el refl)))) (λ no. end_at w c source_end fo fn (fp ∷ fq) _ _ (λ en el. twin_ok w _ _ fo en el refl))))
+  source_by_twin c o1 n l = twin_then w _ _ _ _ (string_by_twin o1 n l) (λ fv fo fn fl. cut w (λ z. Twins w (if c.syntax.import_attributes && (at lm with_kind (on fo fn ((z ++ regexps w))) || (at lm assert_kind (on fo fn ((z ++ regexps w))) && not (brk (input lm (on fo fn ((z ++ regexps w))))))) then (eat_word lm c (kind (input lm (on fo fn ((z ++ regexps w))))) (on fo fn ((z ++ regexps w))) >>= λ w. attributes_by lm inner c w >>= λ o. end_of lm c plain_end o.1 >>= λ e. Ok (record { src = fv; with_ = o.0 }, e)) else (end_of lm c source_end (on fo fn ((z ++ regexps w))) >>= λ e. Ok (record { src = fv; with_ = absent }, e))) (if c.syntax.import_attributes && (at lm with_kind (on fo fn ((z ++ slashes w))) || (at lm assert_kind (on fo fn ((z ++ slashes w))) && not (brk (input lm (on fo fn ((z ++ slashes w))))))) then (eat_word lm c (kind (input lm (on fo fn ((z ++ slashes w))))) (on fo fn ((z ++ slashes w))) >>= λ w. attributes_by lm inner c w >>= λ o. end_of lm c plain_end o.1 >>= λ e. Ok (record { src = fv; with_ = o.0 }, e)) else (end_of lm c source_end (on fo fn ((z ++ slashes w))) >>= λ e. Ok (record { src = fv; with_ = absent }, e)))) fl (twin_if w (c.syntax.import_attributes && (at lm with_kind (on fo fn (regexps w)) || (at lm assert_kind (on fo fn (regexps w)) && not (brk (input lm (on fo fn (regexps w))))))) (c.syntax.import_attributes && (at lm with_kind (on fo fn (slashes w)) || (at lm assert_kind (on fo fn (slashes w)) && not (brk (input lm (on fo fn (slashes w))))))) (parted w (λ z. c.syntax.import_attributes && (at lm with_kind (on fo fn z) || (at lm assert_kind (on fo fn z) && not (brk (input lm (on fo fn z)))))) refl refl) _ _ _ _ (λ yes. absurd (not_and_false _ yes)) (λ no. end_at w c source_end fo fn [] _ _ (λ en el. twin_ok w _ _ fo en el refl))) (λ fp fq. twin_if w (c.syntax.import_attributes && (at lm with_kind (on fo fn (fp ∷ (fq ++ regexps w))) || (at lm assert_kind (on fo fn (fp ∷ (fq ++ regexps w))) && not (brk (input lm (on fo fn (fp ∷ (fq ++ regexps w)))))))) (c.syntax.import_attributes && (at lm with_kind (on fo fn (fp ∷ (fq ++ slashes w))) || (at lm assert_kind (on fo fn (fp ∷ (fq ++ slashes w))) && not (brk (input lm (on fo fn (fp ∷ (fq ++ slashes w)))))))) refl _ _ _ _ (λ yes. word_on w c (kind (input lm (on fo fn (fp ∷ (fq ++ regexps w))))) fo fn fp fq _ _ (twin_then w _ _ _ _ (attributes_by_twin c fo fp.spot.hi fq) (λ ov oo on1 ol. end_at w c plain_end oo on1 ol _ _ (λ en el. twin_ok w _ _ oo en el refl)))) (λ no. end_at w c source_end fo fn (fp ∷ fq) _ _ (λ en el. twin_ok w _ _ fo en el refl))))
 
   pub named_import_twin : (c : Code) (o : List ℕ) (n1 : ℕ) (l1 : List PlacedToken) → Twins w (named_import lm inner c (on o n1 ((l1 ++ regexps w)))) (named_import lm inner c (on o n1 ((l1 ++ slashes w))))
   unfolding named_import

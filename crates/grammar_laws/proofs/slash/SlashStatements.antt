@@ -1,5 +1,6 @@
 -- Patterns, statements, functions and classes (ECMA-262, clauses 14 and 15): their rules over two such lists.
 use Rattle.std.proofs.Common.{◌≡◌, ℕ, Bool, true, false, not, ◌&&◌, ◌||◌, ◌==◌, cond, if◌then◌else◌, List, [], ◌∷◌, ◌++◌, Result, Ok, refl, sym, ap, ◌∙◌, true≢false}
+use Rattle.base_proofs.proofs.Bools.{not_and_false}
 use Rattle.base_token.specs.declared.place.Span.{Span}
 use Rattle.base_token.specs.Kinds.{dot_dot_dot_kind, left_paren_kind, right_paren_kind, left_bracket_kind, right_bracket_kind, left_brace_kind, right_brace_kind, semicolon_kind, comma_kind, colon_kind, hash_kind, mul_kind, assign_kind, await_kind, break_kind, case_kind, catch_kind, continue_kind, debugger_kind, default_kind, do_kind, else_kind, finally_kind, for_kind, function_kind, if_kind, return_kind, switch_kind, throw_kind, try_kind, var_kind, let_kind, const_kind, while_kind, with_kind, class_kind, extends_kind, in_kind, async_kind, of_kind, using_kind, static_kind, accessor_kind, get_kind, set_kind}
 use Rattle.tree_spec.specs.Tree.{Tree, none, more, pack, block_stmt, labeled_stmt, break_stmt, continue_stmt, switch_case, try_stmt, catch_clause, do_while_stmt, for_stmt, for_in_stmt, for_of_stmt, expr_stmt, class_decl, fn_decl, var_decl, using_decl, var_declarator, function, static_block, auto_accessor, ident, binding_ident, rest_pat, assign_pat, key_value_pat_prop, assign_pat_prop, absent}
@@ -10,7 +11,7 @@ use Rattle.grammar_spec.specs.Reader.Source.{Fault, unexpected, ◌>>=◌, State
 use Rattle.grammar_spec.specs.Reader.Expressions.{first, key_by, function_by, is_async_head}
 use Rattle.grammar_spec.specs.Reader.Statements.{initial_pat, after_item, array_item, array_pat_by, keyed_item, named_item, pattern_prop, object_item, object_pat_by, pat_by, block_step, block_rest, block_by, body_item, body_step, body_by, declarator_by, declarator_step, declarators_by, starts_let, starts_variables, variables_by, starts_using, starts_await_using, using_by, function_decl_by, class_decl_by, field_value, class_key, method_tree, class_method_by, class_getter, class_setter, accessor_by, field_or_method, generator_member, member_rest, starts_static, static_by, member_step, members_by, class_tail_by, in_parens, sub_by, with_by, while_by, do_by, branched, else_by, if_step, if_by, ends_here, return_by, throw_by, label_by, jump_by, debugger_by, case_step, case_rest, case_by, has_default, cases_step, switch_by, catch_by, finally_by, try_by, clause_by, for_rest, over_rest, in_rest, of_rest, one_bare, head_rest, for_variables, for_using, for_expression_rest, for_expression, for_head, for_by, statement_class, labelled_by, expression_by, starts_async, keyword_stmt, stmt_by, stmt_from, Body, Chain}
 use Rattle.grammar_laws.proofs.slash.SlashExpressions.{key_by_twin, private_by_twin, function_by_twin, setter_parameter_twin, star_twin}
-use Rattle.grammar_laws.proofs.slash.Twins.{lm, Parting, regexps, slashes, slashes_by, on, Twins, twin_ok, never, twin_then, twin_if, twin_no, cut, parted, same, Plain, plain_at, lo_same, no_and, no_and2, off_first, off_left, off_deep, end_as, eat_on, eat_at, eat_none, word_on, word_at, word_none, name_on, name_none, placed_none, placed_on, end_at, twin_placed, iterate_twin, Told}
+use Rattle.grammar_laws.proofs.slash.Twins.{lm, Parting, regexps, slashes, slashes_by, on, Twins, twin_ok, never, twin_then, twin_if, twin_no, cut, parted, same, Plain, plain_at, lo_same, no_and2, off_first, off_left, off_deep, end_as, eat_on, eat_at, eat_none, word_on, word_at, word_none, name_on, name_none, placed_none, placed_on, end_at, twin_placed, iterate_twin, Told}
 
 module _ (w : Parting) (inner : Inner Input) (told : Told w inner) where
   pub initial_pat_twin : (c : Code) (starto : List ℕ) (startn : ℕ) (startl : List PlacedToken) (p : Tree) (o : List ℕ) (n : ℕ) (l : List PlacedToken) → Twins w (initial_pat lm inner c (on starto startn ((startl ++ regexps w))) p (on o n ((l ++ regexps w)))) (initial_pat lm inner c (on starto startn ((startl ++ slashes w))) p (on o n ((l ++ slashes w))))
@@ -159,7 +160,7 @@ module _ (w : Parting) (inner : Inner Input) (told : Told w inner) where
 
   pub member_rest_twin : (c : Code) (starto : List ℕ) (startn : ℕ) (startp : PlacedToken) (startl : List PlacedToken) (is_static : Bool) (o : List ℕ) (n : ℕ) (l : List PlacedToken) → Twins w (member_rest lm inner c (on starto startn (startp ∷ (startl ++ regexps w))) is_static (on o n ((l ++ regexps w)))) (member_rest lm inner c (on starto startn (startp ∷ (startl ++ slashes w))) is_static (on o n ((l ++ slashes w))))
   unfolding member_rest
-  member_rest_twin c starto startn startp startl is_static o n [] = twin_no w (at lm mul_kind (on o n (slashes w))) (parted w (λ z. at lm mul_kind (on o n z)) refl refl) _ _ _ (twin_no w (is_async_head lm inner (on o n (slashes w))) (parted w (λ z. is_async_head lm inner (on o n z)) refl refl) _ _ _ (twin_no w (at lm get_kind (on o n (slashes w)) && starts_key (kind2 (input lm (on o n (slashes w))))) (parted w (λ z. at lm get_kind (on o n z) && starts_key (kind2 (input lm (on o n z)))) refl refl) _ _ _ (twin_no w (at lm set_kind (on o n (slashes w)) && starts_key (kind2 (input lm (on o n (slashes w))))) (parted w (λ z. at lm set_kind (on o n z) && starts_key (kind2 (input lm (on o n z)))) refl refl) _ _ _ (twin_if w (c.syntax.auto_accessors && (at lm accessor_kind (on o n (regexps w)) && (starts_key (kind2 (input lm (on o n (regexps w)))) && not (brk2 (input lm (on o n (regexps w))))))) (c.syntax.auto_accessors && (at lm accessor_kind (on o n (slashes w)) && (starts_key (kind2 (input lm (on o n (slashes w)))) && not (brk2 (input lm (on o n (slashes w))))))) (parted w (λ z. c.syntax.auto_accessors && (at lm accessor_kind (on o n z) && (starts_key (kind2 (input lm (on o n z))) && not (brk2 (input lm (on o n z)))))) refl refl) _ _ _ _ (λ yes. absurd (no_and w _ yes)) (λ no. field_or_method_twin c starto startn startp startl is_static o n [])))))
+  member_rest_twin c starto startn startp startl is_static o n [] = twin_no w (at lm mul_kind (on o n (slashes w))) (parted w (λ z. at lm mul_kind (on o n z)) refl refl) _ _ _ (twin_no w (is_async_head lm inner (on o n (slashes w))) (parted w (λ z. is_async_head lm inner (on o n z)) refl refl) _ _ _ (twin_no w (at lm get_kind (on o n (slashes w)) && starts_key (kind2 (input lm (on o n (slashes w))))) (parted w (λ z. at lm get_kind (on o n z) && starts_key (kind2 (input lm (on o n z)))) refl refl) _ _ _ (twin_no w (at lm set_kind (on o n (slashes w)) && starts_key (kind2 (input lm (on o n (slashes w))))) (parted w (λ z. at lm set_kind (on o n z) && starts_key (kind2 (input lm (on o n z)))) refl refl) _ _ _ (twin_if w (c.syntax.auto_accessors && (at lm accessor_kind (on o n (regexps w)) && (starts_key (kind2 (input lm (on o n (regexps w)))) && not (brk2 (input lm (on o n (regexps w))))))) (c.syntax.auto_accessors && (at lm accessor_kind (on o n (slashes w)) && (starts_key (kind2 (input lm (on o n (slashes w)))) && not (brk2 (input lm (on o n (slashes w))))))) (parted w (λ z. c.syntax.auto_accessors && (at lm accessor_kind (on o n z) && (starts_key (kind2 (input lm (on o n z))) && not (brk2 (input lm (on o n z)))))) refl refl) _ _ _ _ (λ yes. absurd (not_and_false _ yes)) (λ no. field_or_method_twin c starto startn startp startl is_static o n [])))))
   member_rest_twin c starto startn startp startl is_static o n (p ∷ l) = twin_if w (at lm mul_kind (on o n (p ∷ (l ++ regexps w)))) (at lm mul_kind (on o n (p ∷ (l ++ slashes w)))) refl _ _ _ _ (λ yes. generator_member_twin c starto startn startp startl is_static false o n (p ∷ l)) (λ no. twin_if w (is_async_head lm inner (on o n (p ∷ (l ++ regexps w)))) (is_async_head lm inner (on o n (p ∷ (l ++ slashes w)))) (same w (λ z. is_async_head lm inner (on o n (p ∷ z))) refl refl (λ p. refl) (λ p. refl) (λ p q. refl) (λ p q. refl) (λ p q r l m n. refl) l) _ _ _ _ (λ yes. generator_member_twin c starto startn startp startl is_static true o p.spot.hi l) (λ no. twin_if w (at lm get_kind (on o n (p ∷ (l ++ regexps w))) && starts_key (kind2 (input lm (on o n (p ∷ (l ++ regexps w)))))) (at lm get_kind (on o n (p ∷ (l ++ slashes w))) && starts_key (kind2 (input lm (on o n (p ∷ (l ++ slashes w)))))) (same w (λ z. at lm get_kind (on o n (p ∷ z)) && starts_key (kind2 (input lm (on o n (p ∷ z))))) refl refl (λ p. refl) (λ p. refl) (λ p q. refl) (λ p q. refl) (λ p q r l m n. refl) l) _ _ _ _ (λ yes. class_getter_twin c starto startn (startp ∷ startl) is_static o n p l) (λ no. twin_if w (at lm set_kind (on o n (p ∷ (l ++ regexps w))) && starts_key (kind2 (input lm (on o n (p ∷ (l ++ regexps w)))))) (at lm set_kind (on o n (p ∷ (l ++ slashes w))) && starts_key (kind2 (input lm (on o n (p ∷ (l ++ slashes w)))))) (same w (λ z. at lm set_kind (on o n (p ∷ z)) && starts_key (kind2 (input lm (on o n (p ∷ z))))) refl refl (λ p. refl) (λ p. refl) (λ p q. refl) (λ p q. refl) (λ p q r l m n. refl) l) _ _ _ _ (λ yes. class_setter_twin c starto startn (startp ∷ startl) is_static o n p l) (λ no. twin_if w (c.syntax.auto_accessors && (at lm accessor_kind (on o n (p ∷ (l ++ regexps w))) && (starts_key (kind2 (input lm (on o n (p ∷ (l ++ regexps w))))) && not (brk2 (input lm (on o n (p ∷ (l ++ regexps w)))))))) (c.syntax.auto_accessors && (at lm accessor_kind (on o n (p ∷ (l ++ slashes w))) && (starts_key (kind2 (input lm (on o n (p ∷ (l ++ slashes w))))) && not (brk2 (input lm (on o n (p ∷ (l ++ slashes w)))))))) (same w (λ z. c.syntax.auto_accessors && (at lm accessor_kind (on o n (p ∷ z)) && (starts_key (kind2 (input lm (on o n (p ∷ z)))) && not (brk2 (input lm (on o n (p ∷ z))))))) refl refl (λ p. refl) (λ p. refl) (λ p q. refl) (λ p q. refl) (λ p q r l m n. refl) l) _ _ _ _ (λ yes. accessor_by_twin c starto startn (startp ∷ startl) is_static o n p l) (λ no. field_or_method_twin c starto startn startp startl is_static o n (p ∷ l))))))
 
   pub member_nil : {A : Type 0} (c : Code) (start : State Input) (z : Bool) (o : List ℕ) (n : ℕ) (f : Tree × State Input → Result (A × State Input) Fault) (y : Result (A × State Input) Fault) → Twins w (member_rest lm inner c start z (on o n (regexps w)) >>= f) y
@@ -349,12 +350,12 @@ module _ (w : Parting) (inner : Inner Input) (told : Told w inner) where
 
   pub expression_by_twin : (c : Code) (o : List ℕ) (n : ℕ) (l : List PlacedToken) → Twins w (expression_by lm inner c (on o n ((l ++ regexps w)))) (expression_by lm inner c (on o n ((l ++ slashes w))))
   unfolding expression_by
-  expression_by_twin c o n [] = twin_no w (at lm let_kind (on o n (slashes w)) && (kind2 (input lm (on o n (slashes w))) == left_bracket_kind)) (parted w (λ z. at lm let_kind (on o n z) && (kind2 (input lm (on o n z)) == left_bracket_kind)) refl refl) _ _ _ (twin_then w _ _ _ _ (told.expr c expression_level o n []) (λ ev eo en el. cut w (λ z. Twins w (if is_name ev && at lm colon_kind (on eo en ((z ++ regexps w))) then labelled_by lm inner c (on o n (regexps w)) ev (on eo en ((z ++ regexps w))) else (end_of lm c (statement_class lm inner c (on o n (regexps w)) ev) (on eo en ((z ++ regexps w))) >>= λ r. Ok (expr_stmt (spanned lm (on o n (regexps w)) r) ev, r))) (if is_name ev && at lm colon_kind (on eo en ((z ++ slashes w))) then labelled_by lm inner c (on o n (slashes w)) ev (on eo en ((z ++ slashes w))) else (end_of lm c (statement_class lm inner c (on o n (slashes w)) ev) (on eo en ((z ++ slashes w))) >>= λ r. Ok (expr_stmt (spanned lm (on o n (slashes w)) r) ev, r)))) el (twin_if w (is_name ev && at lm colon_kind (on eo en (regexps w))) (is_name ev && at lm colon_kind (on eo en (slashes w))) (parted w (λ z. is_name ev && at lm colon_kind (on eo en z)) refl refl) _ _ _ _ (λ yes. absurd (no_and w _ yes)) (λ no. end_as w c (statement_class lm inner c (on o n (regexps w)) ev) (statement_class lm inner c (on o n (slashes w)) ev) (parted w (λ z. (statement_class lm inner c (on o n z) ev)) refl refl) eo en [] _ _ (λ rn rl. twin_ok w _ _ eo rn rl refl))) (λ ep eq. twin_if w (is_name ev && at lm colon_kind (on eo en (ep ∷ (eq ++ regexps w)))) (is_name ev && at lm colon_kind (on eo en (ep ∷ (eq ++ slashes w)))) refl _ _ _ _ (λ yes. labelled_by_twin c o n [] ev eo en ep eq) (λ no. end_as w c (statement_class lm inner c (on o n (regexps w)) ev) (statement_class lm inner c (on o n (slashes w)) ev) (parted w (λ z. (statement_class lm inner c (on o n z) ev)) refl refl) eo en (ep ∷ eq) _ _ (λ rn rl. twin_ok w _ _ eo rn rl refl)))))
-  expression_by_twin c o n (p ∷ l) = twin_if w (at lm let_kind (on o n (p ∷ (l ++ regexps w))) && (kind2 (input lm (on o n (p ∷ (l ++ regexps w)))) == left_bracket_kind)) (at lm let_kind (on o n (p ∷ (l ++ slashes w))) && (kind2 (input lm (on o n (p ∷ (l ++ slashes w)))) == left_bracket_kind)) (same w (λ z. at lm let_kind (on o n (p ∷ z)) && (kind2 (input lm (on o n (p ∷ z))) == left_bracket_kind)) refl refl (λ p. refl) (λ p. refl) (λ p q. refl) (λ p q. refl) (λ p q r l m n. refl) l) _ _ _ _ (λ yes. never w _ _) (λ no. twin_then w _ _ _ _ (told.expr c expression_level o n (p ∷ l)) (λ ev eo en el. cut w (λ z. Twins w (if is_name ev && at lm colon_kind (on eo en ((z ++ regexps w))) then labelled_by lm inner c (on o n (p ∷ (l ++ regexps w))) ev (on eo en ((z ++ regexps w))) else (end_of lm c (statement_class lm inner c (on o n (p ∷ (l ++ regexps w))) ev) (on eo en ((z ++ regexps w))) >>= λ r. Ok (expr_stmt (spanned lm (on o n (p ∷ (l ++ regexps w))) r) ev, r))) (if is_name ev && at lm colon_kind (on eo en ((z ++ slashes w))) then labelled_by lm inner c (on o n (p ∷ (l ++ slashes w))) ev (on eo en ((z ++ slashes w))) else (end_of lm c (statement_class lm inner c (on o n (p ∷ (l ++ slashes w))) ev) (on eo en ((z ++ slashes w))) >>= λ r. Ok (expr_stmt (spanned lm (on o n (p ∷ (l ++ slashes w))) r) ev, r)))) el (twin_if w (is_name ev && at lm colon_kind (on eo en (regexps w))) (is_name ev && at lm colon_kind (on eo en (slashes w))) (parted w (λ z. is_name ev && at lm colon_kind (on eo en z)) refl refl) _ _ _ _ (λ yes. absurd (no_and w _ yes)) (λ no. end_at w c (statement_class lm inner c (on o n (p ∷ (l ++ regexps w))) ev) eo en [] _ _ (λ rn rl. twin_ok w _ _ eo rn rl refl))) (λ ep eq. twin_if w (is_name ev && at lm colon_kind (on eo en (ep ∷ (eq ++ regexps w)))) (is_name ev && at lm colon_kind (on eo en (ep ∷ (eq ++ slashes w)))) refl _ _ _ _ (λ yes. labelled_by_twin c o n (p ∷ l) ev eo en ep eq) (λ no. end_at w c (statement_class lm inner c (on o n (p ∷ (l ++ regexps w))) ev) eo en (ep ∷ eq) _ _ (λ rn rl. twin_ok w _ _ eo rn rl refl)))))
+  expression_by_twin c o n [] = twin_no w (at lm let_kind (on o n (slashes w)) && (kind2 (input lm (on o n (slashes w))) == left_bracket_kind)) (parted w (λ z. at lm let_kind (on o n z) && (kind2 (input lm (on o n z)) == left_bracket_kind)) refl refl) _ _ _ (twin_then w _ _ _ _ (told.expr c expression_level o n []) (λ ev eo en el. cut w (λ z. Twins w (if is_name ev && at lm colon_kind (on eo en ((z ++ regexps w))) then labelled_by lm inner c (on o n (regexps w)) ev (on eo en ((z ++ regexps w))) else (end_of lm c (statement_class lm inner c (on o n (regexps w)) ev) (on eo en ((z ++ regexps w))) >>= λ r. Ok (expr_stmt (spanned lm (on o n (regexps w)) r) ev, r))) (if is_name ev && at lm colon_kind (on eo en ((z ++ slashes w))) then labelled_by lm inner c (on o n (slashes w)) ev (on eo en ((z ++ slashes w))) else (end_of lm c (statement_class lm inner c (on o n (slashes w)) ev) (on eo en ((z ++ slashes w))) >>= λ r. Ok (expr_stmt (spanned lm (on o n (slashes w)) r) ev, r)))) el (twin_if w (is_name ev && at lm colon_kind (on eo en (regexps w))) (is_name ev && at lm colon_kind (on eo en (slashes w))) (parted w (λ z. is_name ev && at lm colon_kind (on eo en z)) refl refl) _ _ _ _ (λ yes. absurd (not_and_false _ yes)) (λ no. end_as w c (statement_class lm inner c (on o n (regexps w)) ev) (statement_class lm inner c (on o n (slashes w)) ev) (parted w (λ z. (statement_class lm inner c (on o n z) ev)) refl refl) eo en [] _ _ (λ rn rl. twin_ok w _ _ eo rn rl refl))) (λ ep eq. twin_if w (is_name ev && at lm colon_kind (on eo en (ep ∷ (eq ++ regexps w)))) (is_name ev && at lm colon_kind (on eo en (ep ∷ (eq ++ slashes w)))) refl _ _ _ _ (λ yes. labelled_by_twin c o n [] ev eo en ep eq) (λ no. end_as w c (statement_class lm inner c (on o n (regexps w)) ev) (statement_class lm inner c (on o n (slashes w)) ev) (parted w (λ z. (statement_class lm inner c (on o n z) ev)) refl refl) eo en (ep ∷ eq) _ _ (λ rn rl. twin_ok w _ _ eo rn rl refl)))))
+  expression_by_twin c o n (p ∷ l) = twin_if w (at lm let_kind (on o n (p ∷ (l ++ regexps w))) && (kind2 (input lm (on o n (p ∷ (l ++ regexps w)))) == left_bracket_kind)) (at lm let_kind (on o n (p ∷ (l ++ slashes w))) && (kind2 (input lm (on o n (p ∷ (l ++ slashes w)))) == left_bracket_kind)) (same w (λ z. at lm let_kind (on o n (p ∷ z)) && (kind2 (input lm (on o n (p ∷ z))) == left_bracket_kind)) refl refl (λ p. refl) (λ p. refl) (λ p q. refl) (λ p q. refl) (λ p q r l m n. refl) l) _ _ _ _ (λ yes. never w _ _) (λ no. twin_then w _ _ _ _ (told.expr c expression_level o n (p ∷ l)) (λ ev eo en el. cut w (λ z. Twins w (if is_name ev && at lm colon_kind (on eo en ((z ++ regexps w))) then labelled_by lm inner c (on o n (p ∷ (l ++ regexps w))) ev (on eo en ((z ++ regexps w))) else (end_of lm c (statement_class lm inner c (on o n (p ∷ (l ++ regexps w))) ev) (on eo en ((z ++ regexps w))) >>= λ r. Ok (expr_stmt (spanned lm (on o n (p ∷ (l ++ regexps w))) r) ev, r))) (if is_name ev && at lm colon_kind (on eo en ((z ++ slashes w))) then labelled_by lm inner c (on o n (p ∷ (l ++ slashes w))) ev (on eo en ((z ++ slashes w))) else (end_of lm c (statement_class lm inner c (on o n (p ∷ (l ++ slashes w))) ev) (on eo en ((z ++ slashes w))) >>= λ r. Ok (expr_stmt (spanned lm (on o n (p ∷ (l ++ slashes w))) r) ev, r)))) el (twin_if w (is_name ev && at lm colon_kind (on eo en (regexps w))) (is_name ev && at lm colon_kind (on eo en (slashes w))) (parted w (λ z. is_name ev && at lm colon_kind (on eo en z)) refl refl) _ _ _ _ (λ yes. absurd (not_and_false _ yes)) (λ no. end_at w c (statement_class lm inner c (on o n (p ∷ (l ++ regexps w))) ev) eo en [] _ _ (λ rn rl. twin_ok w _ _ eo rn rl refl))) (λ ep eq. twin_if w (is_name ev && at lm colon_kind (on eo en (ep ∷ (eq ++ regexps w)))) (is_name ev && at lm colon_kind (on eo en (ep ∷ (eq ++ slashes w)))) refl _ _ _ _ (λ yes. labelled_by_twin c o n (p ∷ l) ev eo en ep eq) (λ no. end_at w c (statement_class lm inner c (on o n (p ∷ (l ++ regexps w))) ev) eo en (ep ∷ eq) _ _ (λ rn rl. twin_ok w _ _ eo rn rl refl)))))
 
   pub keyword_stmt_twin : (c : Code) (o : List ℕ) (n : ℕ) (l : List PlacedToken) → Twins w (keyword_stmt lm inner c (on o n ((l ++ regexps w)))) (keyword_stmt lm inner c (on o n ((l ++ slashes w))))
   unfolding keyword_stmt
-  keyword_stmt_twin c o n [] = twin_no w (at lm if_kind (on o n (slashes w))) (parted w (λ z. at lm if_kind (on o n z)) refl refl) _ _ _ (twin_no w (at lm return_kind (on o n (slashes w))) (parted w (λ z. at lm return_kind (on o n z)) refl refl) _ _ _ (twin_no w (at lm for_kind (on o n (slashes w))) (parted w (λ z. at lm for_kind (on o n z)) refl refl) _ _ _ (twin_no w (at lm while_kind (on o n (slashes w))) (parted w (λ z. at lm while_kind (on o n z)) refl refl) _ _ _ (twin_no w (at lm do_kind (on o n (slashes w))) (parted w (λ z. at lm do_kind (on o n z)) refl refl) _ _ _ (twin_no w (at lm switch_kind (on o n (slashes w))) (parted w (λ z. at lm switch_kind (on o n z)) refl refl) _ _ _ (twin_no w (at lm try_kind (on o n (slashes w))) (parted w (λ z. at lm try_kind (on o n z)) refl refl) _ _ _ (twin_no w (at lm throw_kind (on o n (slashes w))) (parted w (λ z. at lm throw_kind (on o n z)) refl refl) _ _ _ (twin_no w (at lm break_kind (on o n (slashes w))) (parted w (λ z. at lm break_kind (on o n z)) refl refl) _ _ _ (twin_no w (at lm continue_kind (on o n (slashes w))) (parted w (λ z. at lm continue_kind (on o n z)) refl refl) _ _ _ (twin_no w (at lm with_kind (on o n (slashes w))) (parted w (λ z. at lm with_kind (on o n z)) refl refl) _ _ _ (twin_no w (at lm debugger_kind (on o n (slashes w))) (parted w (λ z. at lm debugger_kind (on o n z)) refl refl) _ _ _ (twin_no w (at lm function_kind (on o n (slashes w))) (parted w (λ z. at lm function_kind (on o n z)) refl refl) _ _ _ (twin_no w (at lm class_kind (on o n (slashes w))) (parted w (λ z. at lm class_kind (on o n z)) refl refl) _ _ _ (twin_no w (starts_async lm inner (on o n (slashes w))) (parted w (λ z. starts_async lm inner (on o n z)) refl refl) _ _ _ (twin_if w (starts_variables lm inner c (on o n (regexps w))) (starts_variables lm inner c (on o n (slashes w))) (parted w (λ z. starts_variables lm inner c (on o n z)) refl refl) _ _ _ _ (λ yes. absurd (no_and w _ yes)) (λ no. twin_if w (c.listed && starts_using lm inner c (on o n (regexps w))) (c.listed && starts_using lm inner c (on o n (slashes w))) (parted w (λ z. c.listed && starts_using lm inner c (on o n z)) refl refl) _ _ _ _ (λ yes. absurd (no_and2 w _ _ yes)) (λ no. twin_if w (c.listed && starts_await_using lm inner c (on o n (regexps w))) (c.listed && starts_await_using lm inner c (on o n (slashes w))) (parted w (λ z. c.listed && starts_await_using lm inner c (on o n z)) refl refl) _ _ _ _ (λ yes. absurd (no_and2 w _ _ yes)) (λ no. expression_by_twin c o n []))))))))))))))))))
+  keyword_stmt_twin c o n [] = twin_no w (at lm if_kind (on o n (slashes w))) (parted w (λ z. at lm if_kind (on o n z)) refl refl) _ _ _ (twin_no w (at lm return_kind (on o n (slashes w))) (parted w (λ z. at lm return_kind (on o n z)) refl refl) _ _ _ (twin_no w (at lm for_kind (on o n (slashes w))) (parted w (λ z. at lm for_kind (on o n z)) refl refl) _ _ _ (twin_no w (at lm while_kind (on o n (slashes w))) (parted w (λ z. at lm while_kind (on o n z)) refl refl) _ _ _ (twin_no w (at lm do_kind (on o n (slashes w))) (parted w (λ z. at lm do_kind (on o n z)) refl refl) _ _ _ (twin_no w (at lm switch_kind (on o n (slashes w))) (parted w (λ z. at lm switch_kind (on o n z)) refl refl) _ _ _ (twin_no w (at lm try_kind (on o n (slashes w))) (parted w (λ z. at lm try_kind (on o n z)) refl refl) _ _ _ (twin_no w (at lm throw_kind (on o n (slashes w))) (parted w (λ z. at lm throw_kind (on o n z)) refl refl) _ _ _ (twin_no w (at lm break_kind (on o n (slashes w))) (parted w (λ z. at lm break_kind (on o n z)) refl refl) _ _ _ (twin_no w (at lm continue_kind (on o n (slashes w))) (parted w (λ z. at lm continue_kind (on o n z)) refl refl) _ _ _ (twin_no w (at lm with_kind (on o n (slashes w))) (parted w (λ z. at lm with_kind (on o n z)) refl refl) _ _ _ (twin_no w (at lm debugger_kind (on o n (slashes w))) (parted w (λ z. at lm debugger_kind (on o n z)) refl refl) _ _ _ (twin_no w (at lm function_kind (on o n (slashes w))) (parted w (λ z. at lm function_kind (on o n z)) refl refl) _ _ _ (twin_no w (at lm class_kind (on o n (slashes w))) (parted w (λ z. at lm class_kind (on o n z)) refl refl) _ _ _ (twin_no w (starts_async lm inner (on o n (slashes w))) (parted w (λ z. starts_async lm inner (on o n z)) refl refl) _ _ _ (twin_if w (starts_variables lm inner c (on o n (regexps w))) (starts_variables lm inner c (on o n (slashes w))) (parted w (λ z. starts_variables lm inner c (on o n z)) refl refl) _ _ _ _ (λ yes. absurd (not_and_false _ yes)) (λ no. twin_if w (c.listed && starts_using lm inner c (on o n (regexps w))) (c.listed && starts_using lm inner c (on o n (slashes w))) (parted w (λ z. c.listed && starts_using lm inner c (on o n z)) refl refl) _ _ _ _ (λ yes. absurd (no_and2 w _ _ yes)) (λ no. twin_if w (c.listed && starts_await_using lm inner c (on o n (regexps w))) (c.listed && starts_await_using lm inner c (on o n (slashes w))) (parted w (λ z. c.listed && starts_await_using lm inner c (on o n z)) refl refl) _ _ _ _ (λ yes. absurd (no_and2 w _ _ yes)) (λ no. expression_by_twin c o n []))))))))))))))))))
   keyword_stmt_twin c o n (p ∷ l) = twin_if w (at lm if_kind (on o n (p ∷ (l ++ regexps w)))) (at lm if_kind (on o n (p ∷ (l ++ slashes w)))) refl _ _ _ _ (λ yes. if_by_twin c o n (p ∷ l)) (λ no. twin_if w (at lm return_kind (on o n (p ∷ (l ++ regexps w)))) (at lm return_kind (on o n (p ∷ (l ++ slashes w)))) refl _ _ _ _ (λ yes. return_by_twin c o n (p ∷ l)) (λ no. twin_if w (at lm for_kind (on o n (p ∷ (l ++ regexps w)))) (at lm for_kind (on o n (p ∷ (l ++ slashes w)))) refl _ _ _ _ (λ yes. for_by_twin c o n (p ∷ l)) (λ no. twin_if w (at lm while_kind (on o n (p ∷ (l ++ regexps w)))) (at lm while_kind (on o n (p ∷ (l ++ slashes w)))) refl _ _ _ _ (λ yes. while_by_twin c o n (p ∷ l)) (λ no. twin_if w (at lm do_kind (on o n (p ∷ (l ++ regexps w)))) (at lm do_kind (on o n (p ∷ (l ++ slashes w)))) refl _ _ _ _ (λ yes. do_by_twin c o n (p ∷ l)) (λ no. twin_if w (at lm switch_kind (on o n (p ∷ (l ++ regexps w)))) (at lm switch_kind (on o n (p ∷ (l ++ slashes w)))) refl _ _ _ _ (λ yes. switch_by_twin c o n (p ∷ l)) (λ no. twin_if w (at lm try_kind (on o n (p ∷ (l ++ regexps w)))) (at lm try_kind (on o n (p ∷ (l ++ slashes w)))) refl _ _ _ _ (λ yes. try_by_twin c o n (p ∷ l)) (λ no. twin_if w (at lm throw_kind (on o n (p ∷ (l ++ regexps w)))) (at lm throw_kind (on o n (p ∷ (l ++ slashes w)))) refl _ _ _ _ (λ yes. throw_by_twin c o n (p ∷ l)) (λ no. twin_if w (at lm break_kind (on o n (p ∷ (l ++ regexps w)))) (at lm break_kind (on o n (p ∷ (l ++ slashes w)))) refl _ _ _ _ (λ yes. jump_by_twin break_kind (refl, refl, refl) break_stmt c o n (p ∷ l)) (λ no. twin_if w (at lm continue_kind (on o n (p ∷ (l ++ regexps w)))) (at lm continue_kind (on o n (p ∷ (l ++ slashes w)))) refl _ _ _ _ (λ yes. jump_by_twin continue_kind (refl, refl, refl) continue_stmt c o n (p ∷ l)) (λ no. twin_if w (at lm with_kind (on o n (p ∷ (l ++ regexps w)))) (at lm with_kind (on o n (p ∷ (l ++ slashes w)))) refl _ _ _ _ (λ yes. with_by_twin c o n (p ∷ l)) (λ no. twin_if w (at lm debugger_kind (on o n (p ∷ (l ++ regexps w)))) (at lm debugger_kind (on o n (p ∷ (l ++ slashes w)))) refl _ _ _ _ (λ yes. debugger_by_twin c o n (p ∷ l)) (λ no. twin_if w (at lm function_kind (on o n (p ∷ (l ++ regexps w)))) (at lm function_kind (on o n (p ∷ (l ++ slashes w)))) refl _ _ _ _ (λ yes. function_decl_by_twin c o n p l false o n (p ∷ l)) (λ no. twin_if w (at lm class_kind (on o n (p ∷ (l ++ regexps w)))) (at lm class_kind (on o n (p ∷ (l ++ slashes w)))) refl _ _ _ _ (λ yes. twin_if w (c.listed) (c.listed) refl _ _ _ _ (λ yes. class_decl_by_twin c o n (p ∷ l)) (λ no. never w _ _)) (λ no. twin_if w (starts_async lm inner (on o n (p ∷ (l ++ regexps w)))) (starts_async lm inner (on o n (p ∷ (l ++ slashes w)))) (same w (λ z. starts_async lm inner (on o n (p ∷ z))) refl refl (λ p. refl) (λ p. refl) (λ p q. refl) (λ p q. refl) (λ p q r l m n. refl) l) _ _ _ _ (λ yes. twin_if w (c.listed) (c.listed) refl _ _ _ _ (λ yes. function_decl_by_twin c o n p l true o p.spot.hi l) (λ no. never w _ _)) (λ no. twin_if w (starts_variables lm inner c (on o n (p ∷ (l ++ regexps w)))) (starts_variables lm inner c (on o n (p ∷ (l ++ slashes w)))) (same w (λ z. starts_variables lm inner c (on o n (p ∷ z))) refl refl (λ p. refl) (λ p. refl) (λ p q. refl) (λ p q. refl) (λ p q r l m n. refl) l) _ _ _ _ (λ yes. variables_by_twin c o n p l) (λ no. twin_if w (c.listed && starts_using lm inner c (on o n (p ∷ (l ++ regexps w)))) (c.listed && starts_using lm inner c (on o n (p ∷ (l ++ slashes w)))) (same w (λ z. c.listed && starts_using lm inner c (on o n (p ∷ z))) refl refl (λ p. refl) (λ p. refl) (λ p q. refl) (λ p q. refl) (λ p q r l m n. refl) l) _ _ _ _ (λ yes. using_by_twin c o n (p ∷ l) false o n (p ∷ l)) (λ no. twin_if w (c.listed && starts_await_using lm inner c (on o n (p ∷ (l ++ regexps w)))) (c.listed && starts_await_using lm inner c (on o n (p ∷ (l ++ slashes w)))) (same w (λ z. c.listed && starts_await_using lm inner c (on o n (p ∷ z))) refl refl (λ p. refl) (λ p. refl) (λ p q. refl) (λ p q. refl) (λ p q r l m n. refl) l) _ _ _ _ (λ yes. using_by_twin c o n (p ∷ l) true o p.spot.hi l) (λ no. expression_by_twin c o n (p ∷ l)))))))))))))))))))
 
   pub stmt_by_twin : (c : Code) (o : List ℕ) (n : ℕ) (l : List PlacedToken) → Twins w (stmt_by lm inner c (on o n ((l ++ regexps w)))) (stmt_by lm inner c (on o n ((l ++ slashes w))))

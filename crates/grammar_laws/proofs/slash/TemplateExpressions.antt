@@ -1,25 +1,19 @@
 -- Expressions: what each production consumes keeps the braces and templates that are open.
-use Rattle.std.proofs.Common.{◌≡◌, ◌≤◌, ◌⊎◌, inl, inr, ℕ, ◌+◌, Bool, true, false, ◌&&◌, ◌||◌, ◌==◌, cond, nat_le, List, [], ◌∷◌, Option, Some, None, refl, sym, subst, arith}
+use Rattle.std.proofs.Common.{◌≡◌, ◌≤◌, ◌⊎◌, inl, inr, ℕ, Bool, true, false, ◌&&◌, ◌||◌, ◌==◌, cond, nat_le, List, [], ◌∷◌, Option, Some, None, refl, sym, subst, arith}
 use Rattle.std.proofs.lemmas.Bool.{eqb-true, leb-true}
+use Rattle.base_proofs.proofs.Bools.{and_false}
 use Rattle.base_number.specs.Numbers.{SpecNumber}
 use Rattle.base_token.specs.declared.place.Span.{Span}
 use Rattle.tree_spec.specs.Tree.{Tree}
 use Rattle.base_token.specs.Kinds.{exp_kind, nullish_coalescing_kind, in_kind, hash_kind, dot_kind, dot_dot_dot_kind, left_paren_kind, right_paren_kind, left_bracket_kind, right_bracket_kind, right_brace_kind, back_quote_kind, colon_kind, dollar_brace_kind, question_mark_kind, str_kind, regex_kind, num_kind, big_int_kind, mul_kind, assign_kind, await_kind, new_kind, super_kind, import_kind, yield_kind, meta_kind, target_kind}
 use Rattle.grammar_spec.specs.Tokens.Input.{has_in, Input, Code, with_in, assigning, template_end_goal}
-use Rattle.grammar_spec.specs.Tokens.Operators.{exponent_level, bit_or_level, binary_level, update_level, expression_level, assignment_level, coalesce_level, unary_level, new_level, call_level, member_level, is_assign_op, right_level, operates}
+use Rattle.grammar_spec.specs.Tokens.Operators.{bit_or_level, binary_level, update_level, expression_level, assignment_level, coalesce_level, unary_level, new_level, call_level, member_level, is_assign_op, right_level, operates}
 use Rattle.grammar_spec.specs.Tokens.Shape.{level, fits_left, is_chain, is_element, is_prop, is_key, is_word_name, is_private}
 use Rattle.grammar_spec.specs.Children.{is_ident, is_quasi, Child, Expr, Sorted}
 use Rattle.grammar_spec.specs.Expressions.{Keyword, Identifier, IdentifierName, PrivateIdentifier, StringLiteral, NumericLiteral, BigIntLiteral, RegularExpressionLiteral, Element, ArrayLiteral, ObjectLiteral, PropertyValue, CoverInitializedName, Spread, Bracketed, TemplateSpans, TemplateLiteral, ParenthesizedExpression, AccessedName, Dotted, Member, SuperProperty, ArgumentList, Arguments, Call, SuperCall, ImportArguments, ImportCall, NewWith, NewBare, Optional, ChainMember, ChainCall, TaggedTemplate, MetaProperty, Update, Unary, Await, Binary, Conditional, Assignment, Sequence, YieldBare, Yield, is_update_op, is_unary_op}
 use Rattle.grammar_laws.specs.Slash.TemplateLaws.{Outside, Inside, Behind}
-use Rattle.grammar_laws.proofs.slash.Walks.{Goes, go, Plain, plain_by, plain, takes, takes_word, takes_any, takes_name, opens, closes, quotes, goes_on, takes_in, proper, sorted, off, a_target, leveled, Walked, AllWalked, either, one_of, listed, comma_then}
-
-right_some : (k : ℕ) → 1 ≤ right_level k
-right_some k = by_test (k == exp_kind) (k == nullish_coalescing_kind)
-  where
-    by_test : (a b : Bool) → 1 ≤ cond a exponent_level (cond b bit_or_level (binary_level k + 1))
-    by_test true b = omega arith
-    by_test false true = omega arith
-    by_test false false = omega arith
+use Rattle.grammar_laws.proofs.slash.Walks.{Goes, go, Plain, plain_by, plain, takes, takes_word, takes_any, takes_name, opens, closes, quotes, goes_on, takes_in, proper, sorted, a_target, leveled, Walked, AllWalked, either, one_of, listed, comma_then}
+use Rattle.grammar_laws.proofs.Shapes.{right_some}
 
 left_operand : (c : Code) (op : ℕ) (t : Tree) → operates c op ≡ true → fits_left op t ≡ true → proper t ≡ true
 left_operand c op t h g = sorted (fits_left op) (λ s t w u. no_level) (λ e. no_level) t g
@@ -109,7 +103,7 @@ pub parenthesized_expression_walk : (c : Code) (pl : c.placed ≡ true) (s : Spa
 parenthesized_expression_walk c pl s e ew gs ts r h = go _ _ _ ts h.0 r (takes c pl left_paren_kind gs ts h.0 (plain left_paren_kind refl refl refl refl refl refl refl) h.2) (go _ _ _ h.0 h.1 r (ew (assigning (with_in c)) pl gs h.0 h.1 (leveled expression_level e.tree (omega arith) h.3.0) h.3.1) (takes c pl right_paren_kind gs h.1 r (plain right_paren_kind refl refl refl refl refl refl refl) h.4))
 
 pub accessed_name_walk : (may_private : Bool) (c : Code) (pl : c.placed ≡ true) (p : Child) (pw : Walked p) (gs : List Bool) (ts r : Input) → AccessedName may_private c p ts r → Goes (Outside gs) (Outside gs) ts r
-accessed_name_walk may_private c pl p pw gs ts r h = pw c pl gs ts r (sorted (λ t. is_word_name t || (may_private && is_private t)) (λ s t w u. off _) (λ e. off _) p.tree h.0) h.1
+accessed_name_walk may_private c pl p pw gs ts r h = pw c pl gs ts r (sorted (λ t. is_word_name t || (may_private && is_private t)) (λ s t w u. and_false _) (λ e. and_false _) p.tree h.0) h.1
 
 pub dotted_walk : (may_private : Bool) (c : Code) (pl : c.placed ≡ true) (p : Child) (pw : Walked p) (gs : List Bool) (ts r : Input) → Dotted may_private c p ts r → Goes (Outside gs) (Outside gs) ts r
 dotted_walk may_private c pl p pw gs ts r h = go _ _ _ ts h.0 r (takes c pl dot_kind gs ts h.0 (plain dot_kind refl refl refl refl refl refl refl) h.1) (accessed_name_walk may_private c pl p pw gs h.0 r h.2)

@@ -1,5 +1,6 @@
 -- Statements: what each production consumes keeps the braces and templates that are open.
 use Rattle.std.proofs.Common.{◌≡◌, ◌≤◌, ℕ, Bool, true, false, not, ◌&&◌, ◌||◌, List, [], ◌∷◌, refl, arith}
+use Rattle.base_proofs.proofs.Bools.{and_false}
 use Rattle.base_token.specs.declared.place.Span.{Span}
 use Rattle.base_token.specs.Kinds.{left_paren_kind, right_paren_kind, semicolon_kind, colon_kind, assign_kind, await_kind, case_kind, catch_kind, debugger_kind, default_kind, do_kind, else_kind, finally_kind, for_kind, if_kind, return_kind, switch_kind, throw_kind, try_kind, while_kind, with_kind, in_kind, of_kind, using_kind}
 use Rattle.grammar_spec.specs.Tokens.Input.{Input, Code, without_in, alone, binding, assigning, is_strict}
@@ -8,13 +9,13 @@ use Rattle.grammar_spec.specs.Tokens.Shape.{ends, is_absent, is_block, is_bindin
 use Rattle.grammar_spec.specs.Children.{is_ident, Child, Expr, Sorted}
 use Rattle.grammar_spec.specs.Statements.{Sub, SubOrFunction, InParens, ClosesBlock, Block, Empty, Debugger, Declarator, Bindings, Variables, UsingBindings, Using, ExpressionStatement, If, DoWhile, While, Clause, ForRest, ForOpen, ForExpression, ForVariables, ForUsing, Over, HeadVariables, HeadUsing, HeadTarget, ForIn, ForAwaitOpen, ForOf, OfTarget, Jump, Return, Throw, With, Labelled, ClosesCase, Case, Cases, Switch, Catch, Try, is_var_word, statement_end}
 use Rattle.grammar_laws.specs.Slash.TemplateLaws.{Outside}
-use Rattle.grammar_laws.proofs.slash.Walks.{Goes, go, stay, Plain, plain_by, plain, takes, takes_word, opens, closes, sorted, off, placed, leveled, Walked, AllWalked, either, one_of, maybe, paused, commas, items}
+use Rattle.grammar_laws.proofs.slash.Walks.{Goes, go, stay, Plain, plain_by, plain, takes, takes_word, opens, closes, sorted, placed, leveled, Walked, AllWalked, either, one_of, maybe, paused, commas, items}
 
 pub sub_walk : (c : Code) (pl : c.placed ≡ true) (b : Child) (bw : Walked b) (gs : List Bool) (ts r : Input) → Sub c b ts r → Goes (Outside gs) (Outside gs) ts r
 sub_walk c pl b bw gs ts r h = bw (alone c) pl gs ts r (sorted is_statement (λ s t w u. refl) (λ e. refl) b.tree h.0) h.1
 
 pub sub_or_function_walk : (c : Code) (pl : c.placed ≡ true) (b : Child) (bw : Walked b) (gs : List Bool) (ts r : Input) → SubOrFunction c b ts r → Goes (Outside gs) (Outside gs) ts r
-sub_or_function_walk c pl b bw gs ts r h = bw (alone c) pl gs ts r (sorted (λ t. is_statement t || (not (is_strict c) && is_plain_function t)) (λ s t w u. off _) (λ e. off _) b.tree h.0) h.1
+sub_or_function_walk c pl b bw gs ts r h = bw (alone c) pl gs ts r (sorted (λ t. is_statement t || (not (is_strict c) && is_plain_function t)) (λ s t w u. and_false _) (λ e. and_false _) b.tree h.0) h.1
 
 pub in_parens_walk : (c : Code) (pl : c.placed ≡ true) (e : Child) (ew : Walked e) (gs : List Bool) (ts r : Input) → InParens c e ts r → Goes (Outside gs) (Outside gs) ts r
 in_parens_walk c pl e ew gs ts r h = go _ _ _ ts h.0 r (takes c pl left_paren_kind gs ts h.0 (plain left_paren_kind refl refl refl refl refl refl refl) h.2) (go _ _ _ h.0 h.1 r (ew (assigning c) pl gs h.0 h.1 (leveled expression_level e.tree (omega arith) h.3.0) h.3.1) (takes c pl right_paren_kind gs h.1 r (plain right_paren_kind refl refl refl refl refl refl refl) h.4))

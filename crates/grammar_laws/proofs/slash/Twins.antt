@@ -1,5 +1,6 @@
 -- Two readings over lists that begin alike, and part where one has a regular expression and the other a slash.
 use Rattle.std.proofs.Common.{◌≡◌, ℕ, zero, suc, Bool, true, false, not, ◌&&◌, cond, eqb, nat_le, List, [], ◌∷◌, ◌++◌, Result, Ok, Err, refl, sym, ap, ◌∙◌, subst, true≢false}
+use Rattle.base_proofs.proofs.Bools.{not_and_false}
 use Rattle.base_token.specs.declared.context.Context.{Context}
 use Rattle.base_token.specs.Kinds.{regex_kind, div_kind, div_assign_kind, semicolon_kind}
 use Rattle.base_token.specs.Tokens.{Bare, Pattern}
@@ -88,12 +89,8 @@ module _ (w : Parting) where
   twin_no false e y u v h = h
   twin_no true e y u v h = absurd (true≢false (sym e))
 
-  pub no_and : (a : Bool) → (a && false) ≡ true → ⊥
-  no_and true e = true≢false (sym e)
-  no_and false e = true≢false (sym e)
-
   pub no_and2 : (a b : Bool) → (a && (b && false)) ≡ true → ⊥
-  no_and2 true b e = no_and b e
+  no_and2 true b e = not_and_false b e
   no_and2 false b e = true≢false (sym e)
 
   pub off_first : (a x : Bool) → ((a && false) && x) ≡ true → ⊥

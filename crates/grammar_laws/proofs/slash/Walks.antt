@@ -1,6 +1,7 @@
 -- What a production consumes leads from a region to one with the same braces open.
 use Rattle.std.proofs.Common.{◌≡◌, ◌≤◌, if◌then◌else◌, not, ◌&&◌, Option, arith, ℕ, ◌==◌, Bool, true, false, cond, eqb, List, [], ◌∷◌, refl, sym, ap, ◌∙◌, subst, true≢false, ◌⊎◌, inl, inr}
 use Rattle.std.proofs.lemmas.Bool.{eqb-true, eq-eqb, and_parts}
+use Rattle.base_proofs.proofs.Bools.{and_false}
 use Rattle.base_token.specs.Kinds.{error_kind, assign_kind, comma_kind, left_brace_kind, right_brace_kind, back_quote_kind, template_kind, dollar_brace_kind, semicolon_kind}
 use Rattle.grammar_spec.specs.Tokens.Input.{PlacedToken, Input, Code, Takes, TakesWord, TakesAnyWord, TakesName, TakesIn, Stands, Only, usual, goal_of, kind, kind_of, rest, others, is_word, in_list, turned_strict}
 use Rattle.grammar_spec.specs.Tokens.Shape.{is_absent, is_hole, is_rest, is_use_strict, is_directive, level, is_simple, is_target_expr, is_place, is_item_pat, is_target}
@@ -104,21 +105,17 @@ of_sort f a b _ h = refl
 pub sorted : (f : Tree → Bool) → ((s : Span) (t : Bool) (w : List ℕ) (u : Option (List ℕ)) → f (tpl_element s t w u) ≡ false) → ((e : Tree) → f (expr_pat e) ≡ false) → (t : Tree) → f t ≡ true → proper t ≡ true
 sorted f a b t h = of_sort f a (λ e g. absurd (true≢false (sym g ∙ b e))) t h
 
-pub off : (b : Bool) → (b && false) ≡ false
-off true = refl
-off false = refl
-
 simple : (e : Tree) → (is_target_expr e && is_simple e) ≡ true → proper e ≡ true
 simple e h = sorted is_simple (λ s t w u. refl) (λ e. refl) e (and_parts (is_target_expr e) (is_simple e) h).1
 
 pub placed : (b : Bool) (t : Tree) → is_place b t ≡ true → proper t ≡ true
-placed b t h = of_sort (is_place b) (λ s t w u. off (not b)) (λ e g. simple e (and_parts (not b) (is_target_expr e && is_simple e) g).1) t h
+placed b t h = of_sort (is_place b) (λ s t w u. and_false (not b)) (λ e g. simple e (and_parts (not b) (is_target_expr e && is_simple e) g).1) t h
 
 pub an_item : (b : Bool) (t : Tree) → is_item_pat b t ≡ true → proper t ≡ true
-an_item b t h = of_sort (is_item_pat b) (λ s t w u. off (not b)) (λ e g. simple e (and_parts (not b) (is_target_expr e && is_simple e) g).1) t h
+an_item b t h = of_sort (is_item_pat b) (λ s t w u. and_false (not b)) (λ e g. simple e (and_parts (not b) (is_target_expr e && is_simple e) g).1) t h
 
 pub a_target : (op : ℕ) (t : Tree) → is_target op t ≡ true → proper t ≡ true
-a_target op t h = sorted (is_target op) (λ s t w u. off (op == assign_kind)) (λ e. off (op == assign_kind)) t h
+a_target op t h = sorted (is_target op) (λ s t w u. and_false (op == assign_kind)) (λ e. and_false (op == assign_kind)) t h
 
 pub leveled : (l : ℕ) (t : Tree) → 1 ≤ l → l ≤ level t → proper t ≡ true
 leveled l (tpl_element s t w u) h g = absurd (omega (arith, h, g))

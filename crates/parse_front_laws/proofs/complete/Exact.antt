@@ -1,6 +1,6 @@
 -- Each complete front is read: before a token with which no longer list goes on, each rule ends.
 use Rattle.std.proofs.Common.{◌≡◌, ◌<◌, ◌≤◌, inl, ℕ, suc, Bool, true, false, ◌||◌, eqb, List, [], ◌∷◌, ◌++◌, length, refl, sym, ap, ap₂, ◌∙◌, subst, true≢false, arith, cond, leb, nat_lt, ltb-true, ltb-false}
-use Rattle.std.proofs.lemmas.Bool.{eqb-true, ne_eqb, or_left, leb-true, leb-false, eqb-false, and_parts}
+use Rattle.std.proofs.lemmas.Bool.{eqb-true, ne_eqb, or_left, leb-false}
 use Rattle.base_token.specs.Kinds.{plus_plus_kind, minus_minus_kind, question_mark_kind}
 use Rattle.tree_spec.specs.Tree.{Tree, none, more}
 use Rattle.tree_nesting.specs.Nesting.{nesting}
@@ -22,6 +22,7 @@ use Rattle.grammar_laws.proofs.complete_rules.Sources.{in_module}
 use Rattle.grammar_laws.proofs.complete.Sizes.{items_small, items_reach}
 use Rattle.grammar_laws.proofs.complete.Tied.{known, complete}
 use Rattle.grammar_laws.proofs.complete.Nests.{reach_nests}
+use Rattle.grammar_laws.proofs.Shapes.{update_op}
 use Rattle.parse_source_laws.specs.Ahead.{at_list}
 use Rattle.parse_front_laws.specs.Complete.Laws.{input_at, IsComplete, Whatever, EndsAt, EndsBefore, Expression, Statement, ListItem, ModuleItem}
 use Rattle.parse_front_laws.specs.Complete.Exact.{goes_after, Stopped, IsReadWhere, FrontsAreExact}
@@ -125,9 +126,6 @@ one_of_two k true y f h low high = refl
 one_of_two k false true f h low high = refl
 one_of_two k false false f h low high = absurd (between_two k (f refl) (h refl) low high)
 
-pub updates : (k : ℕ) → between plus_plus_kind minus_minus_kind k ≡ true → is_update_op k ≡ true
-updates k h = let z = and_parts (leb 20 k) (leb k 21) h in one_of_two k (eqb k 20) (eqb k 21) (λ e. eqb-false k 20 e) (λ e. eqb-false k 21 e) (leb-true 20 k z.0) (leb-true k 21 z.1)
-
 stops : (c : Code) (l : ℕ) → 1 ≤ l → l ≤ 2 → (n : ℕ) (ps : List PlacedToken) (t : Tree) (r : Input) → InOrder n ps → Expression false l c t (input_at n ps) r → IsComplete (Expression false l c) n ps r.places → goes_after c (ends t) r < l → goes_expr c (ends t) r < l
 stops c l a b n ps t r order g w s = by_kind (between plus_plus_kind minus_minus_kind (kind r)) refl s
   where
@@ -147,7 +145,7 @@ stops c l a b n ps t r order g w s = by_kind (between plus_plus_kind minus_minus
 
     by_kind : (x : Bool) → between plus_plus_kind minus_minus_kind (kind r) ≡ x → cond x 0 (goes_expr c (ends t) r) < l → goes_expr c (ends t) r < l
     by_kind false e s = s
-    by_kind true e s = let up = updates (kind r) e in subst (λ (m : ℕ). m < l) (sym (update_goes c (ends t) r up)) (by_class (leb 2 (ends t)) (leb 1 (ends t)) (brk r) refl refl refl up)
+    by_kind true e s = let up = update_op (kind r) e in subst (λ (m : ℕ). m < l) (sym (update_goes c (ends t) r up)) (by_class (leb 2 (ends t)) (leb 1 (ends t)) (brk r) refl refl refl up)
 
 expression_exact : (c : Code) (l : ℕ) → 1 ≤ l → l ≤ 2 → c.context.in_generator ≡ false → IsReadWhere (Stopped l c) (λ d s. (readers lm d).expr c l s) (Expression false l c)
 expression_exact c l a b calm d n ps t r deep order g w m = by_rest c l a b calm d n ps t r deep order g (stops c l a b n ps t r order g w m) w r.places refl

@@ -2,6 +2,7 @@
 -- that ends there, and so behind each around it. So before a token with which no list goes on, each statement ends there.
 use Rattle.std.proofs.Common.{◌≡◌, ◌+◌, ℕ, Bool, true, false, not, ◌&&◌, ◌==◌, eqb, List, [], ◌∷◌, ◌++◌, inl, inr, refl, sym, ap, ◌∙◌, subst, true≢false, arith}
 use Rattle.std.proofs.lemmas.Bool.{eqb-true, and_parts, and_right, or_left, not-true}
+use Rattle.base_proofs.proofs.Bools.{cond_second, cond_first}
 use Rattle.base_token.specs.declared.context.Context.{Context}
 use Rattle.base_token.specs.declared.place.Span.{Span}
 use Rattle.base_token.specs.Kinds.{finally_kind, colon_kind, semicolon_kind, else_kind, if_kind, while_kind, with_kind, try_kind, in_kind, of_kind, right_paren_kind, right_brace_kind, question_mark_kind}
@@ -19,7 +20,6 @@ use Rattle.grammar_laws.proofs.context.Statements.{in_parens, sub_or, clause, fo
 use Rattle.grammar_laws.proofs.context.Placed.{move, moves}
 use Rattle.grammar_laws.specs.CompleteBase.Laws.{coded, InOrder}
 use Rattle.grammar_laws.proofs.complete_base.Yields.{starts_here}
-use Rattle.grammar_laws.proofs.complete_base.Levels.{cond_yes, cond_no}
 use Rattle.grammar_laws.proofs.complete_base.Trees.{by_cases}
 use Rattle.grammar_laws.proofs.complete_rules.Nested.{leaves}
 use Rattle.parse_front_laws.specs.Complete.Laws.{input_at}
@@ -227,13 +227,13 @@ module _ (q : PlacedToken) (beyond : List PlacedToken) (plain : eqb q.spot.token
     rising = rising_behind ts h.1 _ (label_before (cut h.1) (coded p c) s l b ts r h (cut_end h.1) (cut_here h.1)).1 w.rising;
   }) h.4.1
   leaves_there (if_stmt s e a b) p c ts r w h = by_cases (is_absent b) ((kind h.2 ≡ else_kind → ⊥) × (h.2 ≡ r)) ((x : Input) × TakesWord (coded p c) else_kind h.2 x × SubOrFunction (coded p c) (kid b) x r) (leaves c.context (if_stmt s e a b) r ≡ true) h.6
-      (λ y d. cond_yes (is_absent b) (leaves c.context a r) (leaves c.context b r) true y (leaves_there a p (alone c) h.1 r (record {
+      (λ y d. cond_first (is_absent b) (leaves c.context a r) (leaves c.context b r) true y (leaves_there a p (alone c) h.1 r (record {
         final = λ o k u v n i x. let z = then_before Ahead (coded p c) s e a b ts r h o k in
             w.final z.0 z.1 (if_stmt (span (lo z.0) v.last) e u absent) v n refl (z.2 u v (or_left (is_statement u) _ i, x) (λ j. omega (arith, j, ap kind_of n)));
         there = w.there;
         rising = rising_behind ts h.1 _ (then_before (cut h.1) (coded p c) s e a b ts r h (cut_end h.1) (cut_here h.1)).1 w.rising;
       }) (subst (λ (m : Input). Produces a (coded p (alone c)) h.1 m) d.1 h.5.1)))
-      (λ y d. cond_no (is_absent b) (leaves c.context a r) (leaves c.context b r) true y (leaves_there b p (alone c) d.0 r (record {
+      (λ y d. cond_second (is_absent b) (leaves c.context a r) (leaves c.context b r) true y (leaves_there b p (alone c) d.0 r (record {
         final = λ o k u v n i x. let z = else_before Ahead (coded p c) s e a b ts r h d.0 o d.1 k in
             w.final z.0 z.1 (if_stmt (span (lo z.0) v.last) e a u) v n refl (z.2 u v (stands_there u i) (or_left (is_statement u) _ i, x));
         there = w.there;

@@ -2,6 +2,7 @@
 -- expression. So before a token with which no list goes on, each operand ends there.
 use Rattle.std.proofs.Common.{◌≡◌, ◌<◌, ◌≤◌, ◌+◌, ℕ, Bool, true, false, not, ◌&&◌, ◌||◌, ◌==◌, cond, eqb, leb, if◌then◌else◌, List, [], ◌∷◌, Result, Ok, Err, inl, inr, refl, sym, ap, ◌∙◌, subst, ⊎_elim, true≢false, arith}
 use Rattle.std.proofs.lemmas.Bool.{eqb-true, ne_eqb, leb-true, and_parts, or_parts, or_from, not-true}
+use Rattle.base_proofs.proofs.Bools.{cond_second, cond_first}
 use Rattle.base_token.specs.declared.place.Span.{Span}
 use Rattle.base_token.specs.Tokens.{bare}
 use Rattle.base_token.specs.Kinds.{arrow_kind, async_kind, function_kind, question_mark_kind, left_paren_kind, right_paren_kind, left_brace_kind, right_brace_kind, comma_kind, colon_kind, semicolon_kind, finally_kind, new_kind, await_kind, yield_kind, mul_kind}
@@ -21,7 +22,7 @@ use Rattle.grammar_spec.specs.Reader.Expressions.{Elements, elements_by, heads_p
 use Rattle.grammar_spec.specs.Reader.Reading.{readers}
 use Rattle.grammar_laws.specs.CompleteBase.Laws.{coded, arrowed, InOrder}
 use Rattle.grammar_laws.proofs.complete_base.Yields.{lm, from}
-use Rattle.grammar_laws.proofs.complete_base.Levels.{right_most, cond_yes, cond_no}
+use Rattle.grammar_laws.proofs.complete_base.Levels.{right_most}
 use Rattle.grammar_laws.proofs.complete_rules.Prefixes.{Lone, param_at}
 use Rattle.grammar_laws.proofs.complete_rules.Finds.{Behind, Leads, NoParams}
 use Rattle.grammar_laws.specs.Laws.{OfLevel}
@@ -226,7 +227,7 @@ module _ (q : PlacedToken) (beyond : List PlacedToken) (plain : eqb q.spot.token
       let nn : no_name c.context (kind r) ≡ false = not-true (no_name c.context (kind r)) nb.0 in
       let off : (n : ℕ) → always_reserved n ≡ true → eqb q.spot.token.kind n ≡ false = λ n i. ne_eqb q.spot.token.kind n (λ k. true≢false (sym i ∙ (ap always_reserved (sym k ∙ sym (kind_there r b)) ∙ (or_parts (always_reserved (kind r)) _ nn).0))) in
       let plain_off : (n : ℕ) → is_word n ≡ false → eqb q.spot.token.kind n ≡ false = λ n i. ne_eqb q.spot.token.kind n (λ k. true≢false (sym wd ∙ (ap is_word k ∙ i))) in
-      let on : onward q ≡ arrow_on q q.spot.hi = cond_no _ _ _ _ (or_from _ _ (plain_off arrow_kind refl) (off finally_kind refl)) (cond_no _ _ _ _ (off function_kind refl) (cond_no _ _ _ _ (plain_off colon_kind refl) (cond_yes _ _ _ _ wd refl))) in
+      let on : onward q ≡ arrow_on q q.spot.hi = cond_second _ _ _ _ (or_from _ _ (plain_off arrow_kind refl) (off finally_kind refl)) (cond_second _ _ _ _ (off function_kind refl) (cond_second _ _ _ _ (plain_off colon_kind refl) (cond_first _ _ _ _ wd refl))) in
       let o = input_at r.last (q ∷ onward q) in
       let z = K.take_word (coded p c) async_kind ts r o (a, h.0.2, h.0.4, h.0.5) (stands r b) in
       let d = in_list (with_in (in_arrow true (coded false c))) in let i = q.spot.hi + 1 in let e = input_at (i + 1 + 1) [] in let g = span (lo o) q.spot.hi in
