@@ -1,0 +1,4 @@
+pub mod Numbers
+pub mod Mappings
+pub mod Writing
+pub mod Orders
