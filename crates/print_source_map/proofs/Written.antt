@@ -1,6 +1,7 @@
 -- What calls append, one after another.
 use Rattle.std.proofs.Common.{◌≡◌, ℕ, ◌+◌, ◌/◌, ◌%◌, ◌<◌, ◌≤◌, Bool, true, false, ◌&&◌, List, [], ◌∷◌, ◌++◌, length, drop, get_or, replicate, Option, Some, None, sym, ap, ◌∙◌, append_assoc}
 use Rattle.std.specs.List.{list_all}
+use Rattle.std.proofs.lemmas.Bool.{and_left}
 use Rattle.std.proofs.lemmas.List.{append-nil, at_drop_more, at_drop_all}
 use Rattle.base_token.specs.declared.place.LineCol.{LineCol}
 use Rattle.print_source_map.specs.declared.mapping.Mapping.{Mapping}
@@ -52,9 +53,6 @@ text_goes_on ms i last x y z h e f =
 and_so : (a b : Bool) → a ≡ true → (a && b) ≡ b
 and_so a b e = ap (λ (t : Bool). t && b) e
 
-and_not : (a b : Bool) → a ≡ false → (a && b) ≡ false
-and_not a b e = ap (λ (t : Bool). t && b) e
-
 pub order_goes_on : (ms : List Mapping) (i : ℕ) (last : Option Mapping) (b : Bool) → i < length ms → follow last (drop i ms) ≡ b → follows last (at ms i) ≡ true
     → follow (Some (at ms i)) (drop (i + 1) ms) ≡ b
 unfolding follow
@@ -64,7 +62,7 @@ order_goes_on ms i last b h e f =
 pub order_ends : (ms : List Mapping) (i : ℕ) (last : Option Mapping) → i < length ms → follow last (drop i ms) ≡ are_ordered ms → follows last (at ms i) ≡ false → are_ordered ms ≡ false
 unfolding follow
 order_ends ms i last h e f =
-    sym e ∙ (at_drop_more (λ (l : List Mapping). follow last l) ms i start h ∙ and_not (follows last (at ms i)) (follow (Some (at ms i)) (drop (i + 1) ms)) f)
+    sym e ∙ (at_drop_more (λ (l : List Mapping). follow last l) ms i start h ∙ and_left (follows last (at ms i)) (follow (Some (at ms i)) (drop (i + 1) ms)) f)
 
 pub near_goes_on : (ms : List Mapping) (i : ℕ) (b : Bool) → i < length ms → list_all is_near (drop i ms) ≡ b → is_near (at ms i) ≡ true → list_all is_near (drop (i + 1) ms) ≡ b
 near_goes_on ms i b h e f =
@@ -72,7 +70,7 @@ near_goes_on ms i b h e f =
 
 pub near_ends : (ms : List Mapping) (i : ℕ) → i < length ms → list_all is_near (drop i ms) ≡ are_near ms → is_near (at ms i) ≡ false → are_near ms ≡ false
 near_ends ms i h e f =
-    sym e ∙ (at_drop_more (λ (l : List Mapping). list_all is_near l) ms i start h ∙ and_not (is_near (at ms i)) (list_all is_near (drop (i + 1) ms)) f)
+    sym e ∙ (at_drop_more (λ (l : List Mapping). list_all is_near l) ms i start h ∙ and_left (is_near (at ms i)) (list_all is_near (drop (i + 1) ms)) f)
 
 pub are_in_order : (ms : List Mapping) (i : ℕ) (last : Option Mapping) → length ms ≤ i → follow last (drop i ms) ≡ are_ordered ms → are_ordered ms ≡ true
 unfolding follow
