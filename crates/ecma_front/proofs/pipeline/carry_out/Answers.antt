@@ -27,7 +27,7 @@ pub returns-clause-settings : goal.returns-clause-settings
 returns-clause-settings g c =
     let r = c.in_ok-read_to_end.ensures in (
       λ e. absurd (written_no_settings (λ (v : Vec (BytePos × LineCol) Global). v.items) c.args.options c.in_ok-program.program c.read_to_end.new.kept.items _ _ (rw c.as_slice.ensures.value at c.in_ok-program.ensures.answer)
-          (omega (arith, c.read_to_end.new.kept.ok.0, r.fits)) c.write.result c.write.ensures.value e),
+          (omega (arith, c.read_to_end.new.kept.ok.0, r.fits)) c.write-written.result c.write-written.ensures.value e),
       λ e. absurd (cc (c.if-are_refused.false, c.are_refused.ensures)),
     )
 
@@ -35,22 +35,22 @@ pub returns-clause-unwritten : goal.returns-clause-unwritten
 returns-clause-unwritten g c =
     let r = c.in_ok-read_to_end.ensures in
     written_else (λ (v : Vec (BytePos × LineCol) Global). v.items) c.args.options c.in_ok-program.program c.read_to_end.new.kept.items _ _ (rw c.as_slice.ensures.value at c.in_ok-program.ensures.answer)
-    (omega (arith, c.read_to_end.new.kept.ok.0, r.fits)) _ c.write.result c.write.ensures.value
+    (omega (arith, c.read_to_end.new.kept.ok.0, r.fits)) _ c.write-written.result c.write-written.ensures.value
 
 pub returns-clause-begun : goal.returns-clause-begun
 returns-clause-begun g c =
     let r = c.in_ok-read_to_end.ensures in
     written_begun_or (λ (v : Vec (BytePos × LineCol) Global). v.items) c.args.options c.in_ok-program.program c.read_to_end.new.kept.items _ _ (rw c.as_slice.ensures.value at c.in_ok-program.ensures.answer)
-    (omega (arith, c.read_to_end.new.kept.ok.0, r.fits)) _ _ c.write.result (kept_all _ _ _ r.kept r.whole) c.write.ensures.value
+    (omega (arith, c.read_to_end.new.kept.ok.0, r.fits)) _ _ c.write-written.result (kept_all _ _ _ r.kept r.whole) c.write-written.ensures.value
 
 pub returns-clause-reader_failed : goal.returns-clause-reader_failed
 returns-clause-reader_failed g c =
     let r = c.in_ok-read_to_end.ensures in
     rw (written_no_read (λ (v : Vec (BytePos × LineCol) Global). v.items) c.args.options c.in_ok-program.program c.read_to_end.new.kept.items _ _ (rw c.as_slice.ensures.value at c.in_ok-program.ensures.answer)
-    (omega (arith, c.read_to_end.new.kept.ok.0, r.fits)) c.write.result c.write.ensures.value) r.failures
+    (omega (arith, c.read_to_end.new.kept.ok.0, r.fits)) c.write-written.result c.write-written.ensures.value) r.failures
 
 pub returns-clause-answer : goal.returns-clause-answer
 returns-clause-answer g c =
     let r = c.in_ok-read_to_end.ensures in
     written_answers (λ (v : Vec (BytePos × LineCol) Global). v.items) c.args.options c.in_ok-program.program c.read_to_end.new.kept.items _ _ (rw c.as_slice.ensures.value at c.in_ok-program.ensures.answer)
-    (omega (arith, c.read_to_end.new.kept.ok.0, r.fits)) _ c.write.result (kept_all _ _ _ r.kept r.whole) c.write.ensures.value
+    (omega (arith, c.read_to_end.new.kept.ok.0, r.fits)) _ c.write-written.result (kept_all _ _ _ r.kept r.whole) c.write-written.ensures.value
