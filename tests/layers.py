@@ -29,6 +29,11 @@ FAULTS = (
     ("definitions with code", {"crates/low_spec/src/lib.rt": CODE}, "low_spec has code, which its name denies"),
     ("laws that are named as code", {"crates/high_code/src/lib.rt": LAW}, "high_code has no code, so its name ends with one of _spec, _laws, _proofs"),
     ("code that links laws", {"crates/high_code/src/lib.rt": f"pub use low_laws::one_law;\n{CODE}"}, "high_code links low_laws, a crate of laws"),
+    (
+        "a proof that names a library by its former name",
+        {"crates/high_code/proofs/done/Answers.antt": "use Rattle.former.proofs.done.Goals as goal\n"},
+        "crates/high_code/proofs/done/Answers.antt names former, which high_code doesn't use by crates.txt",
+    ),
     ("code that cites laws", {"crates/high_code/src/lib.rt": f"ghost use Rattle.low_laws.specs.Laws.{{One}};\n{CODE}"}, ""),
 )  # fmt: skip
 STALE = "docs/CRATES.md is not what tools/crates writes: run it"

@@ -21,6 +21,7 @@ CASES = [
     ("--script --minify", "a + (b)", 0, "a+(b)", ""),
     ("--script", "a + (b", 1, "", "1:7: unexpected end of the text\n"),
     ("", "\n\n  a b", 1, "", "3:5: unexpected token\n"),
+    ("--script", "\n" * 122 + " " * 100 + "a b", 1, "", "123:103: unexpected token\n"),
     ("--minify --ascii-only", "é='é'", 0, None, ""),
     ("--minify --ascii-only", "'\u00e9'", 0, '"\\xe9"', ""),
     ("--minify --inline-script", "'</script>'", 0, '"<\\/script>"', ""),

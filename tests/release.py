@@ -658,7 +658,7 @@ def gate(trial, wanted, what, **more):
 def with_a_gate(trial):
     """Makes a release, and what the gate calls beside it."""
     trial.release()
-    for name in ("tools/tree/check", "tools/crates", "tools/pages", "tools/tidy", "tools/lemmas"):
+    for name in ("tools/tree/check", "tools/crates", "tools/pages", "tools/tidy", "tools/lemmas", ".ci/edits"):
         trial.write(f"repository/{name}", f'#!/bin/sh\n[ "${{STALE-}}" != {name} ]\n', True)
     trial.write("repository/test", '#!/bin/sh\necho "$* ${WRONG:-0}"\necho "5 passed, ${WRONG:-0} failed"\n[ "${WRONG:-0}" = 0 ]\n', True)
 
@@ -666,44 +666,45 @@ def with_a_gate(trial):
 def adds_up_the_gate(trial):
     """The gate counts what it looks at first, what rt ci and ./test count, and the release, and fails where one of them does."""
     with_a_gate(trial)
-    said = gate(trial, (0, "16 passed, 0 failed"), "all is well")
+    said = gate(trial, (0, "17 passed, 0 failed"), "all is well")
     expect_in("what the gate says\n3 passed", said, "what rt ci says")
     expect_in("--built 0\n5 passed", said, "what ./test says")
     expect_in("release 1.2.3 is of these sources", said, "what is said of the release")
-    gate(trial, (1, "15 passed, 1 failed"), "a page that is another", STALE="tools/crates")
-    gate(trial, (1, "16 passed, 2 failed"), "tests that fail", WRONG="2")
-    gate(trial, (1, "10 passed, 1 failed"), "a proof that fails", REFUSED="1")
-    gate(trial, (1, "15 passed, 1 failed"), "another program of the same sources", REBUILT="otherwise")
+    for name in ("tools/crates", ".ci/edits"):
+        gate(trial, (1, "16 passed, 1 failed"), f"{name} finds something", STALE=name)
+    gate(trial, (1, "17 passed, 2 failed"), "tests that fail", WRONG="2")
+    gate(trial, (1, "11 passed, 1 failed"), "a proof that fails", REFUSED="1")
+    gate(trial, (1, "16 passed, 1 failed"), "another program of the same sources", REBUILT="otherwise")
     shutil.rmtree(f"{trial.root}/release")
-    gate(trial, (1, "14 passed, 2 failed"), "no release")
+    gate(trial, (1, "15 passed, 2 failed"), "no release")
 
 
 def sums_up_the_release(trial):
     """The gate sums up the released files whatever else is so, and fails where they are of other sources, unless the release says it."""
     with_a_gate(trial)
-    said = gate(trial, (1, "14 passed, 2 failed"), "a release by another toolchain", KIT="another")
+    said = gate(trial, (1, "15 passed, 2 failed"), "a release by another toolchain", KIT="another")
     expect_in("release/ecma-front is by pretended-kit, and rt is another", said, "what is said")
     trial.change()
-    gate(trial, (1, "14 passed, 2 failed"), "a release of other sources")
+    gate(trial, (1, "15 passed, 2 failed"), "a release of other sources")
     trial.call("tools/release", "--ahead", "words are read")
-    expect_in("stale: the sources are ahead of release 1.2.3", gate(trial, (0, "16 passed, 0 failed"), "sources that are ahead"), "what is said")
+    expect_in("stale: the sources are ahead of release 1.2.3", gate(trial, (0, "17 passed, 0 failed"), "sources that are ahead"), "what is said")
     shutil.copy("/bin/true", f"{trial.root}/release/ecma-front")
-    gate(trial, (1, "15 passed, 1 failed"), "another program beside sources that are ahead")
-    gate(trial, (1, "9 passed, 2 failed"), "another program, and a proof that fails", REFUSED="1")
+    gate(trial, (1, "16 passed, 1 failed"), "another program beside sources that are ahead")
+    gate(trial, (1, "10 passed, 2 failed"), "another program, and a proof that fails", REFUSED="1")
 
 
 def tests_what_it_built(trial):
     """The gate tests the programs that its own proofs built, and none that stood there before or that git brought."""
     with_a_gate(trial)
-    said = gate(trial, (1, "15 passed, 4 failed"), "proofs that build nothing", UNMADE="1")
+    said = gate(trial, (1, "16 passed, 4 failed"), "proofs that build nothing", UNMADE="1")
     expect_in("rt ci has not built ecma_front_cli", said, "what is said")
-    gate(trial, (0, "16 passed, 0 failed"), "proofs that build all")
+    gate(trial, (0, "17 passed, 0 failed"), "proofs that build all")
     git = ["git", "-C", trial.root, "-c", "init.defaultBranch=main"]
     how = {"check": True, "env": trial.environment(), "stdout": subprocess.DEVNULL}
     subprocess.run([*git, "init", "-q"], **how)
-    gate(trial, (0, "16 passed, 0 failed"), "files of out/ that git doesn't track")
+    gate(trial, (0, "17 passed, 0 failed"), "files of out/ that git doesn't track")
     subprocess.run([*git, "add", "-f", "crates/ecma_front_cli/out"], **how)
-    said = gate(trial, (1, "13 passed, 3 failed"), "a file of out/ that git tracks")
+    said = gate(trial, (1, "14 passed, 3 failed"), "a file of out/ that git tracks")
     expect_in("crates/ecma_front_cli/out/ecma_front_cli is tracked by git", said, "what is said")
 
 

@@ -345,13 +345,13 @@ class Nodes:
     def lib_module(self):
         """The root of the crate."""
         table = self.table
-        private = ["expr_box", "pat_box", "places", "questions", "stmt_box"]
+        private = ["expr_box", "pat_box", "places", "questions", "sorts", "stmt_box"]
         out = [
             "//! The syntax tree in code: a struct for each kind of node, after swc's names. Expressions, statements and\n",
             "//! patterns are the sorts of children; each child stands in a box of its sort, and a contract sees the spec\n",
             "//! tree (`tree_spec`).\n#![tactic(auto)]\n\n",
         ]
-        for m in sorted(private + ["knot", "spine"] + table.modules):
+        for m in sorted(private + ["knot", "law", "spine"] + table.modules):
             out.append("%smod %s;\n" % ("" if m in private else "pub ", m))
         out.append("\n")
         for m in sorted(table.modules + ["knot"]):

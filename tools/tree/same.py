@@ -105,10 +105,12 @@ class Same:
         arms = ["    (%s::%s(x), %s::%s(y)) => %s," % (own, v, own, v, self.arm(name, t)) for v, t in self.table.variants_of[name]]
         if name in ("BlockStmtOrExpr", "ForHead", "VarDeclOrExpr"):
             child = [v for v, t in self.table.variants_of[name] if t in SORTS][0]
+            arms.append("    // For the proof: no child is a statement here; the calls bring that fact.")
             arms.append("    (%s::%s(x), _) => is_statement(x)," % (own, child))
             arms.append("    (_, %s::%s(y)) => is_statement(y)," % (own, child))
         elif name in MIXED:
             child = [v for v, t in self.table.variants_of[name] if t in SORTS][0]
+            arms.append("    // For the proof: a part is always a node; the calls bring that fact.")
             arms.append("    (%s::%s(x), _) => !x.part.is_node()," % (own, child))
             arms.append("    (_, %s::%s(y)) => !y.part.is_node()," % (own, child))
         if len([1 for v, t in self.table.variants_of[name] if t not in SORTS or name not in MIXED]) > 1:
@@ -136,9 +138,13 @@ class Same:
     def present_body(self, name, own):
         if name in self.table.fields_of:
             return ["false"]
+        variants = self.table.variants_of[name]
         out = ["match self {"]
-        for v, t in self.table.variants_of[name]:
+        if not any(t in SORTS for _, t in variants):
+            out.insert(0, "// For the proof: the match shows which it is, and by it none is left out.")
+        for v, t in variants:
             if t in SORTS:
+                out.append("    // For the proof: a child is never left out; the call brings that fact.")
                 out.append("    %s::%s(x) => is_nothing(x)," % (own, v))
             else:
                 out.append("    %s::%s(_) => false," % (own, v))

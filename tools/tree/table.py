@@ -81,7 +81,9 @@ def wrap(doc, width=96):
 
 
 class Table:
-    def __init__(self):
+    """The table of the tree, or the one that a text has."""
+
+    def __init__(self, text=None):
         self.structs = []
         self.enums = []
         self.words = []
@@ -90,7 +92,7 @@ class Table:
         self.module_of = {}
         self.module_doc = {}
         self.doc_of = {}
-        for line in (HERE / "tree.table").read_text().splitlines():
+        for line in (text or (HERE / "tree.table").read_text()).splitlines():
             if line.startswith("module "):
                 name, doc = line[len("module ") :].split(": ", 1)
                 self.modules.append(name)

@@ -54,7 +54,7 @@ spelled : (own : List ℕ) → scalars own ≡ true → Each is_line_char own �
 spelled own s e = record { utf8 = (own, (s, refl)); line = subst (λ (cs : List ℕ). Each is_line_char cs) (sym (chars-encodes own s)) e }
 
 -- The first token of a text, where it has a line.
-first_line : (start : ℕ) (modules : Bool) (text : List ℕ) (ps : List PlacedToken) (own : List ℕ) → scalars text ≡ true → Tile start modules text ps → content_of ps ≡ Line own → IsHashbangText own
+pub first_line : (start : ℕ) (modules : Bool) (text : List ℕ) (ps : List PlacedToken) (own : List ℕ) → scalars text ≡ true → Tile start modules text ps → content_of ps ≡ Line own → IsHashbangText own
 first_line start modules text [] own s (inl h) e = absurd (none_is_a_line (content_of []) own tt e)
 first_line start modules text (p ∷ ps) own s (inl h) e =
     let t = h.1.1 in

@@ -2,6 +2,7 @@
 use Rattle.std.proofs.Common.{◌≡◌, ◌≤◌, ℕ, Bool, true, not, List, [], ◌∷◌, Some, None, arith, map, sym, ap}
 use Rattle.std.specs.Str.{chars}
 use lib.Utf8.{scalars}
+use Rattle.base_proofs.proofs.Lists.{cons_parts}
 use Rattle.base_token.specs.declared.place.Span.{Span}
 use Rattle.tree_spec.specs.Tree.{Tree, script, es_module}
 use Rattle.tree_program_spec.specs.Names.Names.{Name, Identifier, names}
@@ -17,11 +18,11 @@ use Rattle.print_layout_spec.specs.Layout.{is_empty, laid, statements}
 use Rattle.again_laws.specs.Tokens.Naming.{Naming, StandsFor}
 use Rattle.again_laws.specs.Tiling.Tiles.{IsEmptyPage}
 use Rattle.again_laws.specs.Text.TiledLaws.{ProgramGoes}
-use Rattle.again_laws.proofs.text.Hashbangs.{programs_go}
+use Rattle.again_laws.proofs.text.ProgramsGo.{programs_go}
 use Rattle.again_laws.specs.Text.PlacedLaws.{BeginsMarks, SaysPlaced, ArePlaced}
 use Rattle.again_laws.proofs.text.Pages.{names_are_placed, names_behind_hashbangs}
 use Rattle.again_laws.specs.Derived.Begins.{BeginFrom, NamesFrom}
-use Rattle.again_laws.proofs.derived.Begins.{names_begin_there}
+use Rattle.again_laws.proofs.derived.NamesBegin.{names_begin_there}
 use Rattle.again_laws.specs.Marked.{Alongside, MarksNames, NamesAreMarked}
 use Rattle.again_laws.proofs.Shapes.{goal_is_program, program_is_no_quasi, start_is_silent}
 use Rattle.again_laws.proofs.Written.{names_stand}
@@ -31,15 +32,12 @@ use Rattle.again_laws.proofs.Written.{names_stand}
 abbrev kept : (ℕ → Span) → Name → Identifier
 kept places n = record { sym = n.sym; span = places n.at }
 
-head_of : {A : Type 0} (x y : A) (xs ys : List A) → x ∷ xs ≡ y ∷ ys → (x ≡ y) × (xs ≡ ys)
-head_of x y xs ys e = (cc, cc)
-
 stand_alongside : (n : Naming) (ms bs : List Name) → map (kept n.written) bs ≡ map (kept n.read) ms → Alongside (StandsFor n) ms bs
 stand_alongside n [] [] e = tt
 stand_alongside n [] (b ∷ bs) e = cc
 stand_alongside n (a ∷ ms) [] e = cc
 stand_alongside n (a ∷ ms) (b ∷ bs) e =
-    let h = head_of _ _ _ _ e in (sym (ap (λ (i : Identifier). i.sym) h.0), ap (λ (i : Identifier). i.span) h.0, stand_alongside n ms bs h.1)
+    let h = cons_parts _ _ _ _ e in (sym (ap (λ (i : Identifier). i.sym) h.0), ap (λ (i : Identifier). i.span) h.0, stand_alongside n ms bs h.1)
 
 alongside_from : (P Q : ℕ → ℕ → Type 0) → ((pos at : ℕ) → 1 ≤ pos → P pos at → Q pos at) → (ms bs : List Name) → NamesFrom 1 ms → Alongside P ms bs → Alongside Q ms bs
 alongside_from P Q f [] [] k h = tt

@@ -17,22 +17,22 @@ use Rattle.print_layout_spec.specs.Layout.{is_empty, laid, statements}
 use Rattle.again_laws.specs.Tokens.Spacings.{Spaced}
 use Rattle.again_laws.specs.Tokens.Naming.{Naming, StandsFor, unplaced_names}
 use Rattle.again_laws.specs.Tokens.Ties.{kind_before}
-use Rattle.again_laws.proofs.tokens.Behind.{kinds_stand}
-use Rattle.again_laws.proofs.tokens.Bridge.{bridge}
+use Rattle.again_laws.proofs.tokens.KindsBefore.{kinds_stand}
+use Rattle.again_laws.proofs.tokens.SaidIsTold.{bridge}
 use Rattle.again_laws.proofs.tokens.Known.{tokens_are_known}
 use Rattle.again_laws.specs.Tiling.Laws.{IsTiled}
 use Rattle.again_laws.specs.Tiling.Tiles.{SaysTiles, anywhere, IsEmptyPage}
 use Rattle.again_laws.proofs.tiling.Names.{tiles_weaker}
-use Rattle.again_laws.proofs.tiling.Retiled.{tiles_again}
+use Rattle.again_laws.proofs.tiling.TiledByGoals.{tiles_again}
 use Rattle.again_laws.proofs.tiling.Texts.{layouts_are_tiled, hashbangs_are_tiled}
-use Rattle.again_laws.proofs.leaf.Filled.{texts_mean}
+use Rattle.again_laws.proofs.leaf.TextsMean.{texts_mean}
 use Rattle.again_laws.specs.Derived.Redo.{Mode, Plain, kept_at, nowhere, Redone}
 use Rattle.again_laws.specs.Derived.Every.{every}
 use Rattle.again_laws.specs.Derived.Faithful.{HasElements}
 use Rattle.again_laws.specs.Derived.Read.{Knowledge, Read}
 use Rattle.again_laws.specs.Derived.Written.{leaves_by}
 use Rattle.again_laws.specs.Derived.Laws.{kept_names}
-use Rattle.again_laws.proofs.derived.Early.{legal_alike}
+use Rattle.again_laws.proofs.derived.EarlyErrors.{legal_alike}
 use Rattle.again_laws.proofs.derived.Found.{found}
 use Rattle.again_laws.proofs.derived.Mapped.{mapped}
 use Rattle.again_laws.proofs.derived.Names.{names_alike}
@@ -40,7 +40,7 @@ use Rattle.again_laws.proofs.derived.Programs.{same_program}
 use Rattle.again_laws.proofs.derived.Shapes.{clean_alike, nests_alike}
 use Rattle.again_laws.proofs.derived_laws.Derived.{derived_is_read}
 use Rattle.again_laws.proofs.derived_laws.Leaves.{read_is_faithful}
-use Rattle.again_laws.proofs.derived_laws.BytesLemmas.{written_again}
+use Rattle.again_laws.proofs.derived_laws.WrittenAgain.{written_again}
 use Rattle.again_laws.specs.DerivedLaws.DerivedLaws.{is_program}
 use Rattle.again_laws.proofs.derived_laws.Programs.{derived_again}
 use Rattle.again_laws.specs.Laws.{TellsTiles, ToldIsReadBack, kinds_alone, GoingIsReadBack, HasLineText, IsReadBack, NamesReadBack, ProgramGoes, ProgramsAreTiled, ProgramsGo, TiledIsReadBack}

@@ -5,11 +5,11 @@ pub mod Keys
 pub mod Shapes
 pub mod Names
 pub mod Programs
-pub mod Early
+pub mod EarlyErrors
 pub mod FoundParts
 pub mod FoundExpressions
 pub mod FoundFunctions
 pub mod FoundStatements
 pub mod FoundModules
 pub mod Found
-pub mod Begins
+pub mod NamesBegin

@@ -11,5 +11,5 @@ pub mod Questions
 pub mod Literals
 pub mod Parts
 pub mod Layouts
-pub mod BytesAgain
-pub mod BytesLemmas
+pub mod LaidOutAgain
+pub mod WrittenAgain

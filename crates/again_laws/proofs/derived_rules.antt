@@ -10,7 +10,7 @@ pub mod Ends
 pub mod Bodies
 pub mod Names
 pub mod KeyParts
-pub mod Heads
+pub mod CallHeads
 pub mod Primary
 pub mod Binary
 pub mod Calls
@@ -22,7 +22,7 @@ pub mod Sequences
 pub mod Assignments
 pub mod Templates
 pub mod Yield
-pub mod Quoted
+pub mod WordKeys
 pub mod Keys
 pub mod Patterns
 pub mod Functions
@@ -34,7 +34,7 @@ pub mod Simple
 pub mod If
 pub mod Variables
 pub mod Loops
-pub mod Overs
+pub mod ForInOf
 pub mod Jumps
 pub mod Try
 pub mod Switch
@@ -42,4 +42,4 @@ pub mod Sources
 pub mod Specifiers
 pub mod Imports
 pub mod Exports
-pub mod Defaults
+pub mod DefaultExports

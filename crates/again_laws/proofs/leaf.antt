@@ -1,12 +1,12 @@
 pub mod Scalars
 pub mod Origins
-pub mod Alone
+pub mod StringAlone
 pub mod Units
 pub mod Quotes
 pub mod Pieces
-pub mod Canonical
-pub mod Digits
+pub mod CanonicalNumbers
+pub mod NumbersAscii
 pub mod Words
 pub mod Literals
-pub mod Strict
-pub mod Filled
+pub mod UseStrict
+pub mod TextsMean

@@ -3,5 +3,5 @@ pub mod Punctuators
 pub mod PlainWords
 pub mod Tables
 pub mod Known
-pub mod Behind
-pub mod Bridge
+pub mod KindsBefore
+pub mod SaidIsTold

@@ -6,3 +6,4 @@ pub mod Tiling
 pub mod Tokens
 pub mod Laws
 pub mod Marked
+pub mod Names

@@ -9,6 +9,7 @@ pub mod derived;
 pub mod derived_laws;
 pub mod derived_rules;
 pub mod leaf;
+pub mod names;
 pub mod text;
 pub mod tiling;
 pub mod tokens;

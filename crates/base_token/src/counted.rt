@@ -1,7 +1,7 @@
 //! Readers and writers that count the calls of theirs that failed.
-ghost use Rattle.std.specs.Prelude.{◌≡◌, ℕ};
+ghost use Rattle.std.specs.Prelude.{◌≡◌, ℕ, [], if◌then◌else◌};
 ghost use Rattle.std.specs.Io.{ReadsAtMost, WritesAtMost};
-ghost use Rattle.std.specs.Io.KnownBytes.{Keeps, ReadConsumes, WriteAppends};
+ghost use Rattle.std.specs.Io.KnownBytes.{Appends, Keeps, ReadConsumes, WriteAppends};
 ghost use Rattle.base_token.specs.Counts.{count_after, is_failed_read, is_failed_write};
 
 use std::io;
@@ -42,6 +42,16 @@ pub trait CountedWrite: Write + Failing {
         ensures bound { WritesAtMost result bytes.now }
         ensures bytes { WriteAppends (Self.contents self.old) (Self.contents self.new) result bytes.now }
         ensures failures { Self.failure_count self.new ≡ count_after (is_failed_write bytes.now result) (Self.failure_count self.old) };
+
+    /// Takes all of the bytes where no call that could fail is needed for that, and tells whether it did. Else nothing
+    /// changes: `write_counted` takes what `take_all` leaves.
+    fn take_all(&mut self, bytes: &[u8]) -> bool
+        ensures bytes { Appends (Self.contents self.old) (Self.contents self.new) (if result then bytes.now else []) }
+        ensures failures { Self.failure_count self.new ≡ Self.failure_count self.old }
+    {
+        let _ = bytes;
+        false
+    }
 }
 
 /// Any reader or writer, with a count of its failures.
@@ -158,5 +168,9 @@ impl<R: CountedRead> CountedRead for &mut R {
 impl<W: CountedWrite> CountedWrite for &mut W {
     fn write_counted(&mut self, bytes: &[u8]) -> io::Result<usize> {
         CountedWrite::write_counted(&mut **self, bytes)
+    }
+
+    fn take_all(&mut self, bytes: &[u8]) -> bool {
+        CountedWrite::take_all(&mut **self, bytes)
     }
 }

@@ -9,15 +9,13 @@ use Rattle.run_command.specs.declared.options.Options.{Options}
 use Rattle.ecma_front.specs.declared.fault.Fault.{Fault}
 use Rattle.ecma_front.specs.declared.fault.Fault.TheVariants as f
 use Rattle.run_command.specs.Options.{are_refused}
-use Rattle.ecma_front.specs.Faults.{is_text_fault, is_refusal, is_failure, is_of_writing, is_read_fault, is_write_fault, answers_fault}
+use Rattle.ecma_front.specs.Faults.{is_text_fault, is_past_input, is_failure, is_of_writing, is_read_fault, answers_fault}
 use Rattle.std.proofs.Common.{inl, inr, chars}
 use Rattle.base_token.specs.Dialect.{parts_of}
 use Rattle.base_token.specs.declared.error.Error.{Error}
 use Rattle.grammar_spec.specs.Judge.Early.{early_errors}
 use Rattle.ecma_front.specs.Programs.{IsFaulty, IsProgramOf, Spells}
 use Rattle.std.specs.Prelude.{◌⊎◌}
-use Rattle.base_token.specs.Counts.{one_more, count_after}
-use Rattle.ecma_front.specs.Command.{End, IsHindered, IsUnread, out_of_memory}
 use Rattle.tree_spec.specs.Tree.{Tree}
 use Rattle.base_token.specs.declared.place.BytePos.{BytePos}
 use Rattle.base_token.specs.declared.place.LineCol.{LineCol}
@@ -27,7 +25,8 @@ use Rattle.run_print.specs.Layouts.{layout, IsPastLast}
 use Rattle.run_print.specs.Prints.{IsDone, IsStopped, Texts}
 use Rattle.run_print.proofs.Writing.{no_place_past}
 use Rattle.ecma_front.specs.Formats.{IsProgramIn, IsRefused, LacksProgram, longest_text}
-use Rattle.ecma_front.specs.Run.{Answers, Formats, HasPlaces, IsPrinted, IsReadable, Succeeds, SucceedsExactly, WritesBeginning, WritesProgram}
+use Rattle.ecma_front.specs.Run.{Answers, Formats, HasPlaces, IsPrinted, IsReadable, Succeeds, SucceedsExactly, WritesBeginning}
+use Rattle.ecma_front.specs.Input.{IsInputFault}
 use Rattle.ecma_front.specs.Steps.{fault_of, Writes}
 use Rattle.ecma_front.proofs.Formatting.{can_be_printed}
 use Rattle.ecma_front.proofs.ReadAgain.{layout_utf8, read_again}
@@ -164,11 +163,6 @@ module _ {P : Type 0} (items : P → List (BytePos × LineCol)) (options : Optio
   written_begun_or Z input (Ok positions) same h = tt
   written_begun_or Z input (Err fault) same h = inr (written_begun input (Err fault) same h)
 
-pub answers_program : {P : Type 0} (items : P → List (BytePos × LineCol)) (options : Options) (input before after : Option (List ℕ)) (positions : Option P) → Answers items options input before after (Ok positions)
-    → IfSome input (λ bytes. WritesProgram options bytes before after)
-answers_program items options None before after positions h = tt
-answers_program items options (Some bytes) before after positions h = (h.1.tree, h.1.out, h.1.printed, h.1.written)
-
 -- a fault of the text is neither the reader's nor one of the settings
 pub text_fault_no_read : (fault : Fault) → is_text_fault fault ≡ true → is_read_fault fault ≡ false
 text_fault_no_read (f.NotUtf8 n) is = refl
@@ -182,82 +176,37 @@ text_fault_no_read f.Position is = refl
 text_fault_no_read f.Node is = refl
 text_fault_no_read f.Options is = refl
 
+-- the input was not read to its end
+pub input_fault_early : (fault : Fault) → IsInputFault fault → is_past_input fault ≡ true → ⊥
+input_fault_early (f.Read k) is past = absurd (cc)
+input_fault_early f.TooLong is past = absurd (cc)
+input_fault_early f.Memory is past = absurd (cc)
+input_fault_early (f.NotUtf8 n) is past = is
+input_fault_early (f.Syntax e) is past = is
+input_fault_early f.TooDeep is past = is
+input_fault_early (f.Write k) is past = is
+input_fault_early f.Position is past = is
+input_fault_early f.Node is past = is
+input_fault_early f.Options is past = is
+
 pub text_fault_no_settings : (fault : Fault) → is_text_fault fault ≡ true → fault ≡ f.Options → ⊥
 text_fault_no_settings fault is e = let no = ap is_text_fault e in cc
 
 -- no tree spells a text that has a fault
 faulty : (options : Options) (text : List ℕ) (e : Error) (t : Tree) → IsFaulty options text e → Spells options t text → ⊥
-faulty options text e t (inl none) s = none t s.reads
+faulty options text e t (inl none) s = none.unread t s.reads
 faulty options text e t (inr one) s =
-    let same = one.4 t s.reads in
-    let list = one.5 in
+    let same = one.only t s.reads in
+    let list = one.errors in
     let clean = ap (λ (u : Tree). early_errors (parts_of options.syntax) u) same in
     absurd (cc (list, clean, s.clean))
-
--- a text that is refused is spelled by no program within the limit, or is too long
-unread_at : (options : Options) (bytes : List ℕ) (fault : Fault) → is_refusal fault ≡ true → IsRefused options bytes fault → IsUnread options bytes
-unread_at options bytes (f.NotUtf8 n) is h = λ t u s fits. h.0 u
-unread_at options bytes f.TooLong is h = λ t u s fits. omega arith
-unread_at options bytes (f.Syntax e) is h = λ t u s fits. faulty options (chars bytes) e t h.1 s
-unread_at options bytes f.TooDeep is h = λ t u s fits. let past = h.1 t s.reads in omega (arith, past, s.within)
-unread_at options bytes (f.Read k) is h = absurd (cc)
-unread_at options bytes f.Memory is h = absurd (cc)
-unread_at options bytes (f.Write k) is h = absurd (cc)
-unread_at options bytes f.Position is h = absurd (cc)
-unread_at options bytes f.Node is h = absurd (cc)
-unread_at options bytes f.Options is h = absurd (cc)
-
-refused_as : (P : Type 0) (items : P → List (BytePos × LineCol)) (options : Options) (bytes : List ℕ) (before after : Option (List ℕ)) (fault : Fault) → is_refusal fault ≡ true
-    → Answers {P = P} items options (Some bytes) before after (Err fault) → IsRefused options bytes fault
-refused_as P items options bytes before after (f.NotUtf8 n) is h = h.0
-refused_as P items options bytes before after f.TooLong is h = h.0
-refused_as P items options bytes before after (f.Syntax e) is h = h.0
-refused_as P items options bytes before after f.TooDeep is h = h.0
-refused_as P items options bytes before after (f.Read k) is h = absurd (cc)
-refused_as P items options bytes before after f.Memory is h = absurd (cc)
-refused_as P items options bytes before after (f.Write k) is h = absurd (cc)
-refused_as P items options bytes before after f.Position is h = absurd (cc)
-refused_as P items options bytes before after f.Node is h = absurd (cc)
-refused_as P items options bytes before after f.Options is h = absurd (cc)
-
-pub refusal_unread : (P : Type 0) (items : P → List (BytePos × LineCol)) (options : Options) (input before after : Option (List ℕ)) (fault : Fault) → is_refusal fault ≡ true
-    → Answers {P = P} items options input before after (Err fault) → IfSome input (IsUnread options)
-refusal_unread P items options None before after fault is h = tt
-refusal_unread P items options (Some bytes) before after fault is h = unread_at options bytes fault is (refused_as P items options bytes before after fault is h)
-
-pub refusal_no_write : (fault : Fault) → is_refusal fault ≡ true → is_write_fault fault ≡ false
-refusal_no_write (f.NotUtf8 n) is = refl
-refusal_no_write f.TooLong is = refl
-refusal_no_write (f.Syntax e) is = refl
-refusal_no_write f.TooDeep is = refl
-refusal_no_write (f.Read k) is = refl
-refusal_no_write f.Memory is = refl
-refusal_no_write (f.Write k) is = absurd (cc)
-refusal_no_write f.Position is = refl
-refusal_no_write f.Node is = refl
-refusal_no_write f.Options is = refl
-
-pub refusal_not_of_writing : (o : Options) (fault : Fault) → is_refusal fault ≡ true → is_of_writing o fault ≡ false
-refusal_not_of_writing o (f.NotUtf8 n) is = refl
-refusal_not_of_writing o f.TooLong is = refl
-refusal_not_of_writing o (f.Syntax e) is = refl
-refusal_not_of_writing o f.TooDeep is = refl
-refusal_not_of_writing o (f.Read k) is = absurd (cc)
-refusal_not_of_writing o f.Memory is = absurd (cc)
-refusal_not_of_writing o (f.Write k) is = absurd (cc)
-refusal_not_of_writing o f.Position is = absurd (cc)
-refusal_not_of_writing o f.Node is = refl
-refusal_not_of_writing o f.Options is = refl
-
-pub refusal_no_settings : (fault : Fault) → is_refusal fault ≡ true → fault ≡ f.Options → ⊥
-refusal_no_settings fault is e = let no = ap is_refusal e in cc
 
 refused_unreadable : (P : Type 0) (items : P → List (BytePos × LineCol)) (options : Options) (bytes : List ℕ) (before after : Option (List ℕ)) (fault : Fault) → is_failure fault ≡ false
     → (fault ≡ f.Options → ⊥) → (options.positions ≡ true → IsSome before) → Answers {P = P} items options (Some bytes) before after (Err fault) → IsReadable options bytes → HasPlaces options bytes → ⊥
 refused_unreadable P items options bytes before after (f.NotUtf8 n) is not tells h r places = h.0.0 r.1
 refused_unreadable P items options bytes before after f.TooLong is not tells h r places = omega (arith, h.0, r.0)
 refused_unreadable P items options bytes before after (f.Syntax e) is not tells h r places = faulty options (chars bytes) e r.2.0 h.0.1 r.2.1
-refused_unreadable P items options bytes before after f.TooDeep is not tells h r places = let past = h.0.1 r.2.0 r.2.1.reads in omega (arith, past, r.2.1.within)
+refused_unreadable P items options bytes before after f.TooDeep is not tells h r places = let past = h.0.1.deeper r.2.0 r.2.1.reads in omega (arith, past, r.2.1.within)
 refused_unreadable P items options bytes before after (f.Read k) is not tells h r places = absurd (cc)
 refused_unreadable P items options bytes before after f.Memory is not tells h r places = absurd (cc)
 refused_unreadable P items options bytes before after (f.Write k) is not tells h r places = absurd (cc)
@@ -285,42 +234,6 @@ answers_exactly P items options (Some bytes) before after (Ok x) settings h = λ
     (λ _. ((p.fits, p.program.0, (h.1.tree, p.program.1.0)), has_places options bytes h.1.tree before p.program h.1.within tells), λ _. refl)
 answers_exactly P items options (Some bytes) before after (Err fault) settings h = λ taken found tells.
     (λ e. absurd (cc), λ r. absurd (refused_unreadable P items options bytes before after fault found (λ e. let refused = settings (ap (λ (x : Fault). Err x) e) in cc) tells h r.0 r.1))
-
-pub refusal_no_read : (fault : Fault) → is_refusal fault ≡ true → is_read_fault fault ≡ false
-refusal_no_read (f.NotUtf8 n) is = refl
-refusal_no_read f.TooLong is = refl
-refusal_no_read (f.Syntax e) is = refl
-refusal_no_read f.TooDeep is = refl
-refusal_no_read (f.Read k) is = absurd (cc)
-refusal_no_read f.Memory is = refl
-refusal_no_read (f.Write k) is = refl
-refusal_no_read f.Position is = refl
-refusal_no_read f.Node is = refl
-refusal_no_read f.Options is = refl
-
--- A fault that refuses no text comes of the settings, of an end that failed, of a place past the last, or of memory.
-hindered_at : (P : Type 0) (items : P → List (BytePos × LineCol)) (options : Options) (bytes : List ℕ) (after : Option (List ℕ)) (fault : Fault) (i j o p e d : End) → is_refusal fault ≡ false
-    → Answers {P = P} items options (Some bytes) o.bytes after (Err fault) → (fault ≡ f.Options → are_refused options ≡ true)
-    → j.failures ≡ count_after (is_read_fault fault) i.failures → p.failures ≡ count_after (is_write_fault fault) o.failures
-    → (fault ≡ f.Memory → (d.failures ≡ one_more e.failures) ⊎ Appends e.bytes d.bytes out_of_memory) → IsHindered options bytes i j o p e d
-hindered_at P items options bytes after (f.Read k) i j o p e d is h settings reader writer memory = inr (inl reader)
-hindered_at P items options bytes after (f.Write k) i j o p e d is h settings reader writer memory = inr (inr (inl writer))
-hindered_at P items options bytes after f.Memory i j o p e d is h settings reader writer memory = inr (inr (inr (inr (memory refl))))
-hindered_at P items options bytes after f.Options i j o p e d is h settings reader writer memory = inl (settings refl)
-hindered_at P items options bytes after f.Position i j o p e d is h settings reader writer memory = inr (inr (inr (inl (h.0, h.1.1))))
-hindered_at P items options bytes after f.Node i j o p e d is h settings reader writer memory = absurd h.0
-hindered_at P items options bytes after (f.NotUtf8 n) i j o p e d is h settings reader writer memory = absurd (cc)
-hindered_at P items options bytes after f.TooLong i j o p e d is h settings reader writer memory = absurd (cc)
-hindered_at P items options bytes after (f.Syntax x) i j o p e d is h settings reader writer memory = absurd (cc)
-hindered_at P items options bytes after f.TooDeep i j o p e d is h settings reader writer memory = absurd (cc)
-
-pub hindered : (P : Type 0) (items : P → List (BytePos × LineCol)) (options : Options) (input after : Option (List ℕ)) (fault : Fault) (i j o p e d : End) → is_refusal fault ≡ false
-    → Answers {P = P} items options input o.bytes after (Err fault) → (fault ≡ f.Options → are_refused options ≡ true)
-    → j.failures ≡ count_after (is_read_fault fault) i.failures → p.failures ≡ count_after (is_write_fault fault) o.failures
-    → (fault ≡ f.Memory → (d.failures ≡ one_more e.failures) ⊎ Appends e.bytes d.bytes out_of_memory) → IfSome input (λ bytes. IsHindered options bytes i j o p e d)
-hindered P items options None after fault i j o p e d is h settings reader writer memory = tt
-hindered P items options (Some bytes) after fault i j o p e d is h settings reader writer memory =
-    hindered_at P items options bytes after fault i j o p e d is h settings reader writer memory
 
 -- ---- a text in memory
 
@@ -366,7 +279,7 @@ formats_exactly view options text (Err fault) off settings h = λ taken found te
     by (f.NotUtf8 n) is not k r = k.0.0 r.1
     by f.TooLong is not k r = omega (arith, k.0, r.0)
     by (f.Syntax e) is not k r = faulty options (chars text) e r.2.0 k.0.1 r.2.1
-    by f.TooDeep is not k r = let past = k.0.1 r.2.0 r.2.1.reads in omega (arith, past, r.2.1.within)
+    by f.TooDeep is not k r = let past = k.0.1.deeper r.2.0 r.2.1.reads in omega (arith, past, r.2.1.within)
     by (f.Read q) is not k r = k
     by f.Memory is not k r = absurd (cc)
     by (f.Write q) is not k r = k.0

@@ -5,7 +5,10 @@ pub mod Formats
 pub mod ReadAgain
 pub mod Names
 pub mod Run
+pub mod Exits
 pub mod Command
+-- The law of refusals.
+pub mod Alike
 -- What the steps of a run may answer. No public clause cites these.
 pub mod Input
 pub mod Steps

@@ -1,11 +1,14 @@
--- The program that a text is, by the settings of a run.
-use Rattle.std.specs.Prelude.{◌≡◌, ◌⊎◌, ℕ, ◌≤◌, ◌<◌, List, ◌∷◌}
+-- The program that a text is, by the settings of a run, and why it is none.
+use Rattle.std.specs.Prelude.{◌≡◌, ◌⊎◌, ℕ, ◌+◌, ◌-◌, ◌/◌, ◌%◌, ◌≤◌, ◌<◌, ◌==◌, if◌then◌else◌, List, ◌∷◌, drop, length, Result, Ok, Err}
 use Rattle.base_token.specs.Dialect.{parts_of}
 use Rattle.base_token.specs.declared.error.Error.{Error}
+use Rattle.lex_pieces.specs.Places.{bytes}
 use Rattle.tree_spec.specs.Tree.{Tree}
 use Rattle.tree_nesting.specs.Nesting.{nesting}
 use Rattle.grammar_spec.specs.Judge.Early.{early_errors}
-use Rattle.parse_laws.specs.Text.{Setting, Reads, TreeSpells}
+use Rattle.grammar_spec.specs.Reader.Source as reading
+use Rattle.parse_laws.specs.Text.{Setting, Reads, TreeSpells, text_start}
+use Rattle.parse_laws.specs.TextRead.{read_text}
 use Rattle.run_command.specs.Options.{is_module}
 use Rattle.run_command.specs.declared.options.Options.{Options}
 
@@ -25,11 +28,47 @@ Spells o t text = TreeSpells (setting_of o) (is_module o.goal) t text
 abbrev pub IsProgramOf : Options → List ℕ → Tree → Type 0
 IsProgramOf o text t = Spells o t text × ((other : Tree) → TreeReads o other text → other ≡ t)
 
--- The text has a fault: no tree reads it, or the one tree that does lists early errors, and this is the first of them.
-abbrev pub IsFaulty : Options → List ℕ → Error → Type 0
-IsFaulty o text e = ((other : Tree) → TreeReads o other text → ⊥)
-    ⊎ ((t : Tree) × (rest : List Error) × TreeReads o t text × (nesting t ≤ o.nesting) × ((other : Tree) → TreeReads o other text → other ≡ t) × (early_errors (parts_of o.syntax) t ≡ e ∷ rest))
+-- What reading the text comes to: its tree, too deep a nesting, or a token that is unexpected. The characters and the settings say it.
+abbrev pub outcome : Options → List ℕ → Result Tree reading.Fault
+outcome o text = read_text (is_module o.goal) o.syntax o.nesting text
 
--- Each tree that reads it goes deeper than the limit.
-abbrev pub IsTooDeep : Options → List ℕ → Type 0
-IsTooDeep o text = (other : Tree) → TreeReads o other text → o.nesting < nesting other
+-- How many characters are left where so many tokens may come, since four are counted for each (`bound` of lex_step_laws): it is meant for those behind the token at hand, or from it on where
+-- it is a slash. One more than four for each may be the end behind a slash, or a fault of the lexer, which takes the rest of the text; then none is counted on.
+abbrev pub characters_left : ℕ → ℕ
+characters_left tokens = if tokens % 4 == 1 then 0 else (tokens - 1) / 4
+
+-- the place in a text before its last characters, so many of them
+abbrev pub place_before : ℕ → List ℕ → ℕ
+place_before n text = text_start + (bytes text - bytes (drop (length text - n) text))
+
+-- The place in a text before the characters that are left where so many tokens may come.
+abbrev pub stops_at : ℕ → List ℕ → ℕ
+stops_at tokens text = place_before (characters_left tokens) text
+
+-- Reading the text comes to a token that is unexpected, where so many may come at most; no tree reads it; and the fault begins no further than the
+-- characters that are left by that number.
+pub record IsUnexpected (o : Options) (text : List ℕ) (e : Error) : Type 0 where
+  pub left : ℕ
+  pub stops : outcome o text ≡ Err (reading.Unexpected left)
+  pub unread : (other : Tree) → TreeReads o other text → ⊥
+  pub begins : e.span.lo.0 ≤ stops_at left text
+
+-- Reading the text comes to a tree, within the limit, and no other tree reads it. It lists early errors, and this is the first of them.
+pub record IsWrong (o : Options) (text : List ℕ) (e : Error) : Type 0 where
+  pub tree : Tree
+  pub comes : outcome o text ≡ Ok tree
+  pub reads : TreeReads o tree text
+  pub within : nesting tree ≤ o.nesting
+  pub only : (other : Tree) → TreeReads o other text → other ≡ tree
+  pub rest : List Error
+  pub errors : early_errors (parts_of o.syntax) tree ≡ e ∷ rest
+
+-- The text has a fault: a token is unexpected; or this is the first early error.
+abbrev pub IsFaulty : Options → List ℕ → Error → Type 0
+IsFaulty o text e = IsUnexpected o text e ⊎ IsWrong o text e
+
+-- Reading the text comes to too deep a nesting, where so many tokens may come at most; and each tree that reads it goes deeper than the limit.
+pub record IsTooDeep (o : Options) (text : List ℕ) : Type 0 where
+  pub left : ℕ
+  pub stops : outcome o text ≡ Err (reading.TooDeep left)
+  pub deeper : (other : Tree) → TreeReads o other text → o.nesting < nesting other

@@ -1,8 +1,9 @@
 -- What a run answers and writes.
-use Rattle.std.specs.Prelude.{◌≡◌, ℕ, ◌≤◌, ◌↔◌, true, false, List, length, take, Option, is_some, Result, Ok, Err, IfSome, IsSome, IsOk}
+use Rattle.std.specs.Prelude.{◌≡◌, ◌⊎◌, ℕ, ◌≤◌, ◌↔◌, true, false, List, length, take, Option, is_some, Result, Ok, Err, IfErr, IfSome, IsErrOf, IsSome, IsOk}
 use Rattle.std.specs.Option.{option_map}
 use Rattle.std.specs.Str.{chars, IsUtf8}
-use Rattle.std.specs.Io.KnownBytes.{Appends}
+use Rattle.std.specs.Io.KnownBytes.{Appends, IsAtEnd}
+use Rattle.base_token.specs.Counts.{count_after}
 use Rattle.base_token.specs.declared.place.BytePos.{BytePos}
 use Rattle.base_token.specs.declared.place.LineCol.{LineCol}
 use Rattle.tree_spec.specs.Tree.{Tree}
@@ -12,7 +13,7 @@ use Rattle.run_command.specs.Options.{are_refused}
 use Rattle.run_print.specs.Layouts.{layout, positions_of, IsPastLast}
 use Rattle.ecma_front.specs.declared.fault.Fault.{Fault}
 use Rattle.ecma_front.specs.declared.fault.Fault.TheVariants as f
-use Rattle.ecma_front.specs.Faults.{answers_fault, is_failure}
+use Rattle.ecma_front.specs.Faults.{answers_fault, is_answered_past, is_failure, is_of_writing, is_read_fault, is_write_fault}
 use Rattle.ecma_front.specs.Programs.{Spells}
 use Rattle.ecma_front.specs.ReadAgain.{IsReadAgain}
 use Rattle.ecma_front.specs.Names.{NamesAreTold}
@@ -26,11 +27,7 @@ pub record IsPrinted (options : Options) (bytes : List ℕ) (t : Tree) (out : Li
   pub utf8 : IsUtf8 out
   pub read_again : IsReadAgain options t (chars out)
 
--- The writer got what is written of the input.
-abbrev pub WritesProgram : Options → List ℕ → Option (List ℕ) → Option (List ℕ) → Type 0
-WritesProgram options bytes before after = (t : Tree) × (out : List ℕ) × IsPrinted options bytes t out × Appends before after out
-
--- It got a beginning of it.
+-- The writer got a beginning of what is written of the input.
 abbrev pub WritesBeginning : Options → List ℕ → Option (List ℕ) → Option (List ℕ) → Type 0
 WritesBeginning options bytes before after = (t : Tree) × (out : List ℕ) × (n : ℕ) × IsPrinted options bytes t out × Appends before after (take n out)
 
@@ -79,6 +76,23 @@ HasPlaces options bytes = (t : Tree) → Spells options t (chars bytes) → IsPa
 abbrev pub SucceedsExactly : {P : Type 0} → Options → Option (List ℕ) → Option (List ℕ) → Result P Fault → Type 0
 SucceedsExactly options input before result = are_refused options ≡ false → answers_fault is_failure result ≡ false → (options.positions ≡ true → IsSome before)
     → IfSome input (λ bytes. IsOk result ↔ (IsReadable options bytes × HasPlaces options bytes))
+
+-- What a run promises: what its ends tell of their bytes and count of their failures, the ends before and after, and its answer.
+pub record Ran {R W P : Type 0} (remaining : R → Option (List ℕ)) (reads_failed : R → ℕ) (contents : W → Option (List ℕ)) (writes_failed : W → ℕ) (items : P → List (BytePos × LineCol))
+    (options : Options) (reader reader_after : R) (writer writer_after : W) (result : Result (Option P) Fault) : Type 0 where
+  pub exact : SucceedsExactly options (remaining reader) (contents writer) result
+  -- the settings are judged before anything is read
+  pub settings : IsErrOf result f.Options ↔ (are_refused options ≡ true)
+  pub untouched : are_refused options ≡ true → reader_after ≡ reader
+  -- the input is read to its end
+  pub whole : is_answered_past result ≡ true → IsAtEnd (remaining reader_after)
+  -- with a fault the writer is as it was, or got a beginning
+  pub unwritten : IfErr result (λ fault. is_of_writing options fault ≡ false → writer_after ≡ writer)
+  pub begun : IfErr result (λ fault. (writer_after ≡ writer) ⊎ IfSome (remaining reader) (λ bytes. WritesBeginning options bytes (contents writer) (contents writer_after)))
+  -- a failure of either end is answered, and counted
+  pub reader_failed : reads_failed reader_after ≡ count_after (answers_fault is_read_fault result) (reads_failed reader)
+  pub writer_failed : writes_failed writer_after ≡ count_after (answers_fault is_write_fault result) (writes_failed writer)
+  pub answer : Answers items options (remaining reader) (contents writer) (contents writer_after) result
 
 -- ---- a text in memory
 

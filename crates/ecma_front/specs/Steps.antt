@@ -1,5 +1,5 @@
 -- What the steps of reading and printing answer.
-use Rattle.std.specs.Prelude.{◌≡◌, ℕ, List, [], ◌∷◌, Option, Result, Ok, Err}
+use Rattle.std.specs.Prelude.{◌≡◌, ℕ, min, List, [], ◌∷◌, Option, Result, Ok, Err}
 use Rattle.base_token.specs.declared.place.BytePos.{BytePos}
 use Rattle.base_token.specs.declared.place.LineCol.{LineCol}
 use Rattle.base_token.specs.declared.error.Error.{Error}
@@ -14,18 +14,22 @@ use Rattle.ecma_front.specs.declared.fault.Fault.{Fault}
 use Rattle.ecma_front.specs.declared.fault.Fault.TheVariants as f
 use Rattle.ecma_front.specs.Formats.{IsProgramIn, IsRefused}
 
--- the fault of a run that a failure of the parser is
-abbrev pub fault_in : Failure → Fault
-fault_in failures.Memory = f.Memory
-fault_in failures.TooDeep = f.TooDeep
-fault_in (failures.Syntax e) = f.Syntax e
+-- the same error, which begins at this place at the latest
+abbrev pub held_before : ℕ → Error → Error
+held_before place e = record { span = record { lo = record { 0 = min e.span.lo.0 place }; hi = e.span.hi }; kind = e.kind }
 
--- What was parsed where no fault was recorded; else the first of them, or why nothing was parsed.
-abbrev pub Judges : {X : Type 0} → Result X Failure → List Error → Result X Fault → Type 0
-Judges (Ok x) [] (Ok y) = y ≡ x
-Judges (Ok x) (e ∷ es) (Err fault) = fault ≡ f.Syntax e
-Judges (Err e) recorded (Err fault) = fault ≡ fault_in e
-Judges parsed recorded answer = ⊥
+-- the fault of a run that a failure of the parser is, which begins at this place at the latest
+abbrev pub fault_in : ℕ → Failure → Fault
+fault_in place failures.Memory = f.Memory
+fault_in place failures.TooDeep = f.TooDeep
+fault_in place (failures.Syntax e) = f.Syntax (held_before place e)
+
+-- What was parsed where no fault was recorded; else the first of them, or why nothing was parsed, which begins at this place at the latest.
+abbrev pub Judges : {X : Type 0} → ℕ → Result X Failure → List Error → Result X Fault → Type 0
+Judges place (Ok x) [] (Ok y) = y ≡ x
+Judges place (Ok x) (e ∷ es) (Err fault) = fault ≡ f.Syntax e
+Judges place (Err e) recorded (Err fault) = fault ≡ fault_in place e
+Judges place parsed recorded answer = ⊥
 
 -- the fault of a run that a fault of the printer is told as
 abbrev pub fault_of : EmitError → Fault

@@ -3,8 +3,10 @@
 
 pub mod ast;
 pub mod command;
+mod exit;
 mod fault;
 mod input;
+pub mod laws;
 mod line_col;
 mod pipeline;
 mod reading;
@@ -17,6 +19,7 @@ pub use base_token::{
 };
 pub use command::answer;
 pub use ecma_parser::{PResult, Parser};
+pub use exit::{Exit, exit_of};
 pub use fault::Fault;
 pub use line_col::place;
 pub use pipeline::{run, run_kept};

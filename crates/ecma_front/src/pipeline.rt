@@ -1,10 +1,10 @@
 //! A whole run: from any reader to any writer.
 ghost use Rattle.std.specs.Prelude.{◌≡◌, ◌↔◌, ◌⊎◌, true, false, [], IsErrOf, IfErr, IfSome};
-ghost use Rattle.std.specs.Io.KnownBytes.{Consumes};
+ghost use Rattle.std.specs.Io.KnownBytes.{Consumes, IsAtEnd};
 ghost use Rattle.base_token.specs.Counts.{count_after};
 ghost use Rattle.run_command.specs.Options.{are_refused};
-ghost use Rattle.ecma_front.specs.Faults.{answers_fault, is_of_writing, is_read_fault, is_write_fault};
-ghost use Rattle.ecma_front.specs.Run.{Answers, SucceedsExactly, WritesBeginning};
+ghost use Rattle.ecma_front.specs.Faults.{answers_fault, is_answered_past, is_of_writing, is_read_fault, is_write_fault};
+ghost use Rattle.ecma_front.specs.Run.{Answers, Ran, WritesBeginning};
 
 use crate::fault::Fault;
 use crate::input::read_to_end;
@@ -34,14 +34,8 @@ pub fn run<R: CountedRead, W: CountedWrite>(
     writer: &mut W,
     options: Options,
 ) -> Result<Option<Positions>, Fault>
-    ensures exact { SucceedsExactly options (R.remaining reader.old) (W.contents writer.old) result }
-    ensures settings { IsErrOf result Fault.Options ↔ (are_refused options ≡ true) }
-    ensures untouched { are_refused options ≡ true → reader.new ≡ reader.old }
-    ensures unwritten { IfErr result (λ fault. is_of_writing options fault ≡ false → writer.new ≡ writer.old) }
-    ensures begun { IfErr result (λ fault. (writer.new ≡ writer.old) ⊎ IfSome (R.remaining reader.old) (λ bytes. WritesBeginning options bytes (W.contents writer.old) (W.contents writer.new))) }
-    ensures reader_failed { R.failure_count reader.new ≡ count_after (answers_fault is_read_fault result) (R.failure_count reader.old) }
-    ensures writer_failed { W.failure_count writer.new ≡ count_after (answers_fault is_write_fault result) (W.failure_count writer.old) }
-    ensures answer { Answers (λ v. v.items) options (R.remaining reader.old) (W.contents writer.old) (W.contents writer.new) result }
+    ensures ran { Ran R.remaining R.failure_count W.contents W.failure_count (λ v. v.items) options
+        reader.old reader.new writer.old writer.new result }
 {
     let mut kept = Vec::new(alloc);
     run_kept(alloc, reader, writer, options, &mut kept)
@@ -60,14 +54,8 @@ pub fn run_kept<R: CountedRead, W: CountedWrite>(
     kept: &mut Vec<u8>,
 ) -> Result<Option<Positions>, Fault>
     requires { kept.old.items ≡ [] }
-    ensures exact { SucceedsExactly options (R.remaining reader.old) (W.contents writer.old) result }
-    ensures settings { IsErrOf result Fault.Options ↔ (are_refused options ≡ true) }
-    ensures untouched { are_refused options ≡ true → reader.new ≡ reader.old }
-    ensures unwritten { IfErr result (λ fault. is_of_writing options fault ≡ false → writer.new ≡ writer.old) }
-    ensures begun { IfErr result (λ fault. (writer.new ≡ writer.old) ⊎ IfSome (R.remaining reader.old) (λ bytes. WritesBeginning options bytes (W.contents writer.old) (W.contents writer.new))) }
-    ensures reader_failed { R.failure_count reader.new ≡ count_after (answers_fault is_read_fault result) (R.failure_count reader.old) }
-    ensures writer_failed { W.failure_count writer.new ≡ count_after (answers_fault is_write_fault result) (W.failure_count writer.old) }
-    ensures answer { Answers (λ v. v.items) options (R.remaining reader.old) (W.contents writer.old) (W.contents writer.new) result }
+    ensures ran { Ran R.remaining R.failure_count W.contents W.failure_count (λ v. v.items) options
+        reader.old reader.new writer.old writer.new result }
     ensures kept { Consumes (R.remaining reader.old) (R.remaining reader.new) kept.new.items }
 {
     carry_out(alloc, reader, writer, options, kept, AtEnd::GiveBack)
@@ -92,8 +80,25 @@ impl AtEnd {
     }
 }
 
-/// The steps of a run, and what becomes of the tree.
+/// A run, and what becomes of the tree.
 pub(crate) fn carry_out<R: CountedRead, W: CountedWrite>(
+    alloc: Global,
+    reader: &mut R,
+    writer: &mut W,
+    options: Options,
+    kept: &mut Vec<u8>,
+    end: AtEnd,
+) -> Result<Option<Positions>, Fault>
+    requires { kept.old.items ≡ [] }
+    ensures ran { Ran R.remaining R.failure_count W.contents W.failure_count (λ v. v.items) options
+        reader.old reader.new writer.old writer.new result }
+    ensures kept { Consumes (R.remaining reader.old) (R.remaining reader.new) kept.new.items }
+{
+    steps(alloc, reader, writer, options, kept, end)
+}
+
+/// The steps of a run.
+fn steps<R: CountedRead, W: CountedWrite>(
     alloc: Global,
     reader: &mut R,
     writer: &mut W,
@@ -104,6 +109,7 @@ pub(crate) fn carry_out<R: CountedRead, W: CountedWrite>(
     requires { kept.old.items ≡ [] }
     ensures settings { IsErrOf result Fault.Options ↔ (are_refused options ≡ true) }
     ensures untouched { are_refused options ≡ true → reader.new ≡ reader.old }
+    ensures whole { is_answered_past result ≡ true → IsAtEnd (R.remaining reader.new) }
     ensures unwritten { IfErr result (λ fault. is_of_writing options fault ≡ false → writer.new ≡ writer.old) }
     ensures begun { IfErr result (λ fault. (writer.new ≡ writer.old) ⊎ IfSome (R.remaining reader.old) (λ bytes. WritesBeginning options bytes (W.contents writer.old) (W.contents writer.new))) }
     ensures reader_failed { R.failure_count reader.new ≡ count_after (answers_fault is_read_fault result) (R.failure_count reader.old) }

@@ -29,6 +29,7 @@ impl<'a> Lexer<'a> {
     ghost use Rattle.ecma_lexer.specs.Kept.{IsEmpty, IsUntouched, KeepsAsAsked};
     ghost use Rattle.ecma_lexer.specs.Lexer.{comments_in, is_full, keeps_comments, state_in};
     ghost use Rattle.ecma_lexer.specs.Stepping.{Steps};
+    ghost use Rattle.lex_step_laws.specs.Bounds.{bound};
     ghost use Rattle.lex_step_laws.specs.Steps.{IsStep};
     ghost use Rattle.base_token.specs.declared.error.SyntaxError.TheVariants.{Memory};
     ghost use Rattle.lex_step_laws.specs.States.{at_start_of};
@@ -75,6 +76,15 @@ impl<'a> Lexer<'a> {
         ensures { result ≡ (state_in self.now).tokens.line_break }
     {
         self.text.had_line_break
+    }
+
+    /// How many tokens may come at most: none behind a fault, else four for each character that is left, or for each from a slash on
+    /// that may be read again, and some more.
+    pub fn may_come(&self) -> u64
+        ensures bound { result ≡ bound (state_in self.now).tokens }
+        ensures fits { result < 2 ^ 35 }
+    {
+        self.text.may_come()
     }
 
     /// The next token, or nothing at the end. A fault of the text is an error token, and nothing comes

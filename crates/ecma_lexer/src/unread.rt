@@ -1,4 +1,7 @@
 //! The text that a lexer has not read yet.
+ghost use Rattle.std.specs.Prelude.{◌≡◌, ◌<◌, ◌^◌, length};
+ghost use Rattle.std.specs.Str.{chars};
+
 use crate::last::Last;
 use std::marker::Model;
 
@@ -24,8 +27,31 @@ impl<'a> Model for Unread<'a> {
     ghost invariant = { λ u. (length u.rest.now < u.end) × BackFits u.end u.last };
 }
 
+/// How many characters a text has, which is shorter than this place.
+fn count(text: &str, end: u32) -> u64
+    requires within { length text.now < end }
+    ensures all { result ≡ length (chars text.now) }
+    ensures fits { result < 2 ^ 32 }
+{
+    text.chars().count() as u64
+}
+
 impl<'a> Unread<'a> {
-    ghost use Rattle.std.specs.Prelude.{◌≡◌};
+    ghost use Rattle.lex_step_laws.specs.Bounds.{bound};
+
+    /// How many tokens may come of it at most.
+    pub(crate) fn may_come(&self) -> u64
+        ensures bound { result ≡ bound self.now }
+        ensures fits { result < 2 ^ 35 }
+    {
+        let least = 4 * count(self.rest, self.end);
+        match self.last {
+            Last::Fault => 0,
+            Last::Characters => least + 2,
+            Last::Slash(from) => (least + 3).max(4 * count(from, self.end) + 1),
+            Last::Start | Last::Other => least + 3,
+        }
+    }
 
     /// The same text once more.
     pub(crate) fn copied(&self) -> Unread<'a>

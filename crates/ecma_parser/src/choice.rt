@@ -26,9 +26,13 @@ impl<'a, I: Tokens<'a> + Drop> Entries<Reading<'a, I>> {
     ///
     /// Want of memory, or the fault of the script.
     pub fn parse_program(&mut self) -> PResult<Program>
-        ensures value { Chooses (syntax_in I.state self.old) (spec.bound (stream_of I.machine) (stood I.state self.new)) result (module_read I.machine I.state self.old) (script_read I.machine I.state self.old) (faults_in self.old) (faults_in self.new) }
+        ensures value { Chooses (syntax_in I.state self.old)
+            (spec.bound (stream_of I.machine) (stood I.state self.new)) result
+            (module_read I.machine I.state self.old) (script_read I.machine I.state self.old)
+            (faults_in self.old) (faults_in self.new) }
         ensures keeps { Keeps I.state result self.old self.new }
-        ensures stays { StayRead (stream_of I.machine) result (script_start I.machine I.state self.old) (stood I.state self.new) }
+        ensures stays { StayRead (stream_of I.machine) result
+            (script_start I.machine I.state self.old) (stood I.state self.new) }
     {
         match self.meant_module() {
             Ok(Some(module)) => Ok(Program {
@@ -50,11 +54,16 @@ impl<'a, I: Tokens<'a> + Drop> Entries<Reading<'a, I>> {
     ///
     /// Want of memory.
     fn meant_module(&mut self) -> Result<Option<Module>, Failure>
-        ensures meant { IfOk result (λ m. MatchOption m (NotMeant (syntax_in I.state self.old) (module_read I.machine I.state self.old)) (λ x. IsMeant (syntax_in I.state self.old) (module_read I.machine I.state self.old) (view_module inner x))) }
-        ensures stays { IfOk result (λ m. MatchOption m (self.new ≡ self.old) (λ x. ctx_in I.state self.new ≡ ctx_in I.state self.old)) }
+        ensures meant { IfOk result (λ m. MatchOption m
+            (NotMeant (syntax_in I.state self.old) (module_read I.machine I.state self.old))
+            (λ x. IsMeant (syntax_in I.state self.old) (module_read I.machine I.state self.old)
+            (view_module inner x))) }
+        ensures stays { IfOk result (λ m. MatchOption m (self.new ≡ self.old)
+            (λ x. ctx_in I.state self.new ≡ ctx_in I.state self.old)) }
         ensures fits { IfOk result (λ m. IfSome m (λ x. fits_module (λ p. p) x)) }
         ensures started { IfOk result (λ m. IfSome m (λ _. self.new.started ≡ true)) }
-        ensures failed { MatchResult result (λ m. limit_in self.new ≡ limit_in self.old) (λ e. IsMemory e × (self.new ≡ self.old)) }
+        ensures failed { MatchResult result (λ m. limit_in self.new ≡ limit_in self.old)
+            (λ e. IsMemory e × (self.new ≡ self.old)) }
         ensures faults { faults_in self.new ≡ faults_in self.old }
     {
         let Ok(mut copy) = self.try_clone() else {

@@ -43,18 +43,34 @@ pub type Parser<'a, I> = Entries<Reading<'a, I>>;
 const NESTING: u32 = 256;
 
 impl<'a> Entries<Reading<'a, Lexer<'a>>> {
-    ghost use Rattle.ecma_parser.specs.Entries.{faults_in, limit_in, source_in};
+    ghost use Rattle.ecma_lexer.specs.Machine.{lexer_machine};
+    ghost use Rattle.grammar_spec.specs.Reader.Source.{bound};
+    ghost use Rattle.parse_state.specs.Cursors.{stream_of};
+    ghost use Rattle.ecma_parser.specs.Entries.{faults_in, limit_in, source_in, stood};
 
     /// A parser of a text. Its places count from 1. It requires a text of at most 4,294,967,294 bytes.
     pub fn new(alloc: Global, syntax: Syntax, text: &'a str) -> Self
         requires fits { 1 + length text.now < 2 ^ 32 }
-        ensures source { source_in state_in result ≡ at_start_of syntax EsNext 1 (chars text.now) (1 + length text.now) }
+        ensures source { source_in state_in result
+            ≡ at_start_of syntax EsNext 1 (chars text.now) (1 + length text.now) }
         ensures limit { limit_in result ≡ 256 }
         ensures faults { faults_in result ≡ [] }
         ensures started { result.started ≡ false }
     {
         let lexer = Lexer::new(alloc, syntax, EsVersion::latest(), text, BytePos(1), false);
         Entries::new_from(alloc, lexer)
+    }
+
+    /// How many tokens may come at most, the one among them that was read ahead.
+    #[tactic(auto, unfolding(parse_state::specs::Cursors::stream_of))]
+    pub fn may_come(&self) -> u64
+        ensures { result ≡ bound (stream_of lexer_machine) (stood state_in self.now) }
+    {
+        let behind = self.reading.input.input().may_come();
+        match self.reading.ahead.token {
+            Some(_) => behind + 1,
+            None => behind,
+        }
     }
 }
 
@@ -160,7 +176,8 @@ impl<'a, I: Tokens<'a> + Drop> Entries<Reading<'a, I>> {
     ///
     /// Want of memory.
     fn read_ahead(&mut self, ctx: Context, keeps: bool) -> Result<(), Failure>
-        ensures stand { OnOk result (stood I.state self.new ≡ ahead_of I.machine ctx self.old.reading.last.0 (source_in I.state self.old)) }
+        ensures stand { OnOk result (stood I.state self.new
+            ≡ ahead_of I.machine ctx self.old.reading.last.0 (source_in I.state self.old)) }
         ensures started { IfOk result (λ _. self.new.started ≡ true) }
         ensures limit { limit_in self.new ≡ limit_in self.old }
         ensures faults { faults_in self.new ≡ faults_in self.old }
@@ -183,7 +200,8 @@ impl<'a, I: Tokens<'a> + Drop> Entries<Reading<'a, I>> {
     pub fn try_clone(&self) -> Result<Self, Error>
         ensures stand { IfOk result (λ c. stood I.state c ≡ stood I.state self.now) }
         ensures source { IfOk result (λ c. source_in I.state c ≡ source_in I.state self.now) }
-        ensures opened { IfOk result (λ c. (ctx : _) → opened I.machine I.state ctx c ≡ opened I.machine I.state ctx self.now) }
+        ensures opened { IfOk result (λ c. (ctx : _) → opened I.machine I.state ctx c
+            ≡ opened I.machine I.state ctx self.now) }
         ensures started { IfOk result (λ c. c.started ≡ self.now.started) }
         ensures limit { IfOk result (λ c. limit_in c ≡ limit_in self.now) }
         ensures faults { IfOk result (λ c. faults_in c ≡ faults_in self.now) }
@@ -212,7 +230,8 @@ impl<'a, I: Tokens<'a> + Drop> Entries<Reading<'a, I>> {
     ///
     /// Want of memory.
     fn copied(&self) -> Result<(Ahead<'a>, Vec<u32>, Vec<Error>), AllocError>
-        ensures ahead { IfOk result (λ x. option_map shown_spot x.0.token ≡ option_map shown_spot self.now.reading.ahead.token) }
+        ensures ahead { IfOk result (λ x. option_map shown_spot x.0.token
+            ≡ option_map shown_spot self.now.reading.ahead.token) }
         ensures commas { IfOk result (λ x. x.1.items ≡ self.now.reading.commas.items) }
         ensures faults { IfOk result (λ x. x.2.items ≡ self.now.faults.items) }
     {

@@ -87,7 +87,8 @@ impl<'a, I: Tokens<'a> + Drop> ParseObject<ExprBox> for Entries<Reading<'a, I>> 
         _trailing_comma: Option<Span>,
     ) -> PResult<ExprBox>
         requires fit { All (λ x. fits_prop_or_spread (λ p. p) x) props.items }
-        ensures value { IfOk result (λ x. inner x.part.value ≡ object_lit span (trees_by (view_prop_or_spread inner) props.items)) }
+        ensures value { IfOk result (λ x. inner x.part.value
+            ≡ object_lit span (trees_by (view_prop_or_spread inner) props.items)) }
         ensures holds { IfOk result (λ x. holds_expr x.part.value) }
         ensures allowed { IfOk result (λ _. true ≡ true) }
         ensures full { IfErr result (λ e. e.kind ≡ Memory) }
@@ -99,10 +100,14 @@ impl<'a, I: Tokens<'a> + Drop> ParseObject<ExprBox> for Entries<Reading<'a, I>> 
     }
 
     fn parse_object_prop(&mut self) -> PResult<PropOrSpread>
-        ensures value { ParsesPart (stream_of I.machine) (ctx_in I.state self.old) (view_prop_or_spread inner) (early_errors (syntax_in I.state self.old)) result (script_part I.machine I.state (reads.prop_part (stream_of I.machine)) self.old) (stood I.state self.new) (faults_in self.old) (faults_in self.new) }
+        ensures value { ParsesPart (stream_of I.machine) (ctx_in I.state self.old)
+            (view_prop_or_spread inner) (early_errors (syntax_in I.state self.old)) result
+            (script_part I.machine I.state (reads.prop_part (stream_of I.machine)) self.old)
+            (stood I.state self.new) (faults_in self.old) (faults_in self.new) }
         ensures fits { IfOk result (λ x. fits_prop_or_spread (λ p. p) x) }
         ensures keeps { Keeps I.state result self.old self.new }
-        ensures stays { StayRead (stream_of I.machine) result (script_start I.machine I.state self.old) (stood I.state self.new) }
+        ensures stays { StayRead (stream_of I.machine) result
+            (script_start I.machine I.state self.old) (stood I.state self.new) }
     {
         self.parse_part(&Property)
     }
@@ -127,10 +132,14 @@ impl<'a, I: Tokens<'a> + Drop> ParseObject<PatBox> for Entries<Reading<'a, I>> {
         trailing_comma: Option<Span>,
     ) -> PResult<PatBox>
         requires fit { All (λ x. fits_object_pat_prop (λ p. p) x) props.items }
-        ensures value { IfOk result (λ x. inner x.part.value ≡ object_pat span (trees_by (view_object_pat_prop inner) props.items)) }
-        ensures rests { IfOk result (λ _. reads.rests_last (reads.is_held trailing_comma) false (map (view_object_pat_prop inner) props.items) ≡ true) }
+        ensures value { IfOk result (λ x. inner x.part.value
+            ≡ object_pat span (trees_by (view_object_pat_prop inner) props.items)) }
+        ensures rests { IfOk result (λ _. reads.rests_last (reads.is_held trailing_comma) false
+            (map (view_object_pat_prop inner) props.items) ≡ true) }
         ensures holds { IfOk result (λ x. holds_pat x.part.value) }
-        ensures refused { IfErr result (λ e. e.kind ≢ Memory → reads.rests_last (reads.is_held trailing_comma) false (map (view_object_pat_prop inner) props.items) ≡ false) }
+        ensures refused { IfErr result (λ e. e.kind ≢ Memory
+            → reads.rests_last (reads.is_held trailing_comma) false
+            (map (view_object_pat_prop inner) props.items) ≡ false) }
         ensures stays { self.new ≡ self.old }
     {
         if !rests_last(props.as_slice(), trailing_comma.is_some()) {
@@ -144,10 +153,14 @@ impl<'a, I: Tokens<'a> + Drop> ParseObject<PatBox> for Entries<Reading<'a, I>> {
     }
 
     fn parse_object_prop(&mut self) -> PResult<ObjectPatProp>
-        ensures value { ParsesPart (stream_of I.machine) (ctx_in I.state self.old) (view_object_pat_prop inner) (early_errors (syntax_in I.state self.old)) result (script_part I.machine I.state (reads.item_part (stream_of I.machine)) self.old) (stood I.state self.new) (faults_in self.old) (faults_in self.new) }
+        ensures value { ParsesPart (stream_of I.machine) (ctx_in I.state self.old)
+            (view_object_pat_prop inner) (early_errors (syntax_in I.state self.old)) result
+            (script_part I.machine I.state (reads.item_part (stream_of I.machine)) self.old)
+            (stood I.state self.new) (faults_in self.old) (faults_in self.new) }
         ensures fits { IfOk result (λ x. fits_object_pat_prop (λ p. p) x) }
         ensures keeps { Keeps I.state result self.old self.new }
-        ensures stays { StayRead (stream_of I.machine) result (script_start I.machine I.state self.old) (stood I.state self.new) }
+        ensures stays { StayRead (stream_of I.machine) result
+            (script_start I.machine I.state self.old) (stood I.state self.new) }
     {
         self.parse_part(&PatternProperty)
     }

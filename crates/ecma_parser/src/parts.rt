@@ -40,10 +40,15 @@ impl<'a, I: Tokens<'a> + Drop> Entries<Reading<'a, I>> {
     /// Want of memory, a text that nests deeper than the limit, or a fault of the text: also where the expression would
     /// go on, or a line break alone keeps the next token off.
     pub fn parse_expr(&mut self) -> PResult<ExprBox>
-        ensures value { ParsesPart (stream_of I.machine) (ctx_in I.state self.old) (λ x. inner x.part.value) (early_errors (syntax_in I.state self.old)) result (script_part I.machine I.state (reads.expression_part (stream_of I.machine) expression_level) self.old) (stood I.state self.new) (faults_in self.old) (faults_in self.new) }
+        ensures value { ParsesPart (stream_of I.machine) (ctx_in I.state self.old)
+            (λ x. inner x.part.value) (early_errors (syntax_in I.state self.old)) result
+            (script_part I.machine I.state
+            (reads.expression_part (stream_of I.machine) expression_level) self.old)
+            (stood I.state self.new) (faults_in self.old) (faults_in self.new) }
         ensures holds { IfOk result (λ x. holds_expr x.part.value) }
         ensures keeps { Keeps I.state result self.old self.new }
-        ensures stays { StayRead (stream_of I.machine) result (script_start I.machine I.state self.old) (stood I.state self.new) }
+        ensures stays { StayRead (stream_of I.machine) result
+            (script_start I.machine I.state self.old) (stood I.state self.new) }
     {
         self.parse_part(&Expression { level: EXPRESSION })
     }
@@ -55,10 +60,15 @@ impl<'a, I: Tokens<'a> + Drop> Entries<Reading<'a, I>> {
     /// Want of memory, a text that nests deeper than the limit, or a fault of the text: also where the expression would
     /// go on, or a line break alone keeps the next token off.
     pub fn parse_assignment_expr(&mut self) -> PResult<ExprBox>
-        ensures value { ParsesPart (stream_of I.machine) (ctx_in I.state self.old) (λ x. inner x.part.value) (early_errors (syntax_in I.state self.old)) result (script_part I.machine I.state (reads.expression_part (stream_of I.machine) assignment_level) self.old) (stood I.state self.new) (faults_in self.old) (faults_in self.new) }
+        ensures value { ParsesPart (stream_of I.machine) (ctx_in I.state self.old)
+            (λ x. inner x.part.value) (early_errors (syntax_in I.state self.old)) result
+            (script_part I.machine I.state
+            (reads.expression_part (stream_of I.machine) assignment_level) self.old)
+            (stood I.state self.new) (faults_in self.old) (faults_in self.new) }
         ensures holds { IfOk result (λ x. holds_expr x.part.value) }
         ensures keeps { Keeps I.state result self.old self.new }
-        ensures stays { StayRead (stream_of I.machine) result (script_start I.machine I.state self.old) (stood I.state self.new) }
+        ensures stays { StayRead (stream_of I.machine) result
+            (script_start I.machine I.state self.old) (stood I.state self.new) }
     {
         self.parse_part(&Expression { level: ASSIGNMENT })
     }
@@ -70,10 +80,14 @@ impl<'a, I: Tokens<'a> + Drop> Entries<Reading<'a, I>> {
     ///
     /// Want of memory, a text that nests deeper than the limit, or a fault of the text.
     pub fn parse_pat(&mut self) -> PResult<PatBox>
-        ensures value { ParsesPart (stream_of I.machine) (ctx_in I.state self.old) (λ x. inner x.part.value) (early_errors (syntax_in I.state self.old)) result (script_part I.machine I.state (reads.binding_part (stream_of I.machine)) self.old) (stood I.state self.new) (faults_in self.old) (faults_in self.new) }
+        ensures value { ParsesPart (stream_of I.machine) (ctx_in I.state self.old)
+            (λ x. inner x.part.value) (early_errors (syntax_in I.state self.old)) result
+            (script_part I.machine I.state (reads.binding_part (stream_of I.machine)) self.old)
+            (stood I.state self.new) (faults_in self.old) (faults_in self.new) }
         ensures holds { IfOk result (λ x. holds_pat x.part.value) }
         ensures keeps { Keeps I.state result self.old self.new }
-        ensures stays { StayRead (stream_of I.machine) result (script_start I.machine I.state self.old) (stood I.state self.new) }
+        ensures stays { StayRead (stream_of I.machine) result
+            (script_start I.machine I.state self.old) (stood I.state self.new) }
     {
         self.parse_part(&Binding)
     }
@@ -84,10 +98,14 @@ impl<'a, I: Tokens<'a> + Drop> Entries<Reading<'a, I>> {
     ///
     /// Want of memory, a text that nests deeper than the limit, or a fault of the text.
     pub fn parse_binding_pat_or_ident(&mut self) -> PResult<PatBox>
-        ensures value { ParsesPart (stream_of I.machine) (ctx_in I.state self.old) (λ x. inner x.part.value) (early_errors (syntax_in I.state self.old)) result (script_part I.machine I.state (reads.binding_part (stream_of I.machine)) self.old) (stood I.state self.new) (faults_in self.old) (faults_in self.new) }
+        ensures value { ParsesPart (stream_of I.machine) (ctx_in I.state self.old)
+            (λ x. inner x.part.value) (early_errors (syntax_in I.state self.old)) result
+            (script_part I.machine I.state (reads.binding_part (stream_of I.machine)) self.old)
+            (stood I.state self.new) (faults_in self.old) (faults_in self.new) }
         ensures holds { IfOk result (λ x. holds_pat x.part.value) }
         ensures keeps { Keeps I.state result self.old self.new }
-        ensures stays { StayRead (stream_of I.machine) result (script_start I.machine I.state self.old) (stood I.state self.new) }
+        ensures stays { StayRead (stream_of I.machine) result
+            (script_start I.machine I.state self.old) (stood I.state self.new) }
     {
         self.parse_pat()
     }
@@ -99,10 +117,15 @@ impl<'a, I: Tokens<'a> + Drop> Entries<Reading<'a, I>> {
     ///
     /// Want of memory, a text that nests deeper than the limit, or a fault of the text.
     pub fn parse_formal_params(&mut self) -> PResult<Vec<Param>>
-        ensures value { ParsesPart (stream_of I.machine) (ctx_in I.state self.old) (λ x. list (trees_by (view_param inner) x.items)) (early_errors (syntax_in I.state self.old)) result (script_part I.machine I.state (reads.parameters_part (stream_of I.machine)) self.old) (stood I.state self.new) (faults_in self.old) (faults_in self.new) }
+        ensures value { ParsesPart (stream_of I.machine) (ctx_in I.state self.old)
+            (λ x. list (trees_by (view_param inner) x.items))
+            (early_errors (syntax_in I.state self.old)) result
+            (script_part I.machine I.state (reads.parameters_part (stream_of I.machine)) self.old)
+            (stood I.state self.new) (faults_in self.old) (faults_in self.new) }
         ensures fits { IfOk result (λ x. All (λ x. fits_param (λ p. p) x) x.items) }
         ensures keeps { Keeps I.state result self.old self.new }
-        ensures stays { StayRead (stream_of I.machine) result (script_start I.machine I.state self.old) (stood I.state self.new) }
+        ensures stays { StayRead (stream_of I.machine) result
+            (script_start I.machine I.state self.old) (stood I.state self.new) }
     {
         self.parse_part(&Parameters)
     }
@@ -113,10 +136,14 @@ impl<'a, I: Tokens<'a> + Drop> Entries<Reading<'a, I>> {
     ///
     /// Want of memory, a text that nests deeper than the limit, or a fault of the text.
     pub fn parse_prop_name(&mut self) -> PResult<PropName>
-        ensures value { ParsesPart (stream_of I.machine) (ctx_in I.state self.old) (view_prop_name inner) (early_errors (syntax_in I.state self.old)) result (script_part I.machine I.state (reads.key_part (stream_of I.machine)) self.old) (stood I.state self.new) (faults_in self.old) (faults_in self.new) }
+        ensures value { ParsesPart (stream_of I.machine) (ctx_in I.state self.old)
+            (view_prop_name inner) (early_errors (syntax_in I.state self.old)) result
+            (script_part I.machine I.state (reads.key_part (stream_of I.machine)) self.old)
+            (stood I.state self.new) (faults_in self.old) (faults_in self.new) }
         ensures fits { IfOk result (λ x. fits_prop_name (λ p. p) x) }
         ensures keeps { Keeps I.state result self.old self.new }
-        ensures stays { StayRead (stream_of I.machine) result (script_start I.machine I.state self.old) (stood I.state self.new) }
+        ensures stays { StayRead (stream_of I.machine) result
+            (script_start I.machine I.state self.old) (stood I.state self.new) }
     {
         self.parse_part(&Key)
     }
@@ -128,10 +155,14 @@ impl<'a, I: Tokens<'a> + Drop> Entries<Reading<'a, I>> {
     ///
     /// Want of memory, a text that nests deeper than the limit, or a fault of the text.
     pub fn parse_stmt(&mut self, top_level: bool) -> PResult<StmtBox>
-        ensures value { ParsesPart (stream_of I.machine) (ctx_in I.state self.old) (λ x. inner x.part.value) (program.item_errors (syntax_in I.state self.old) top_level) result (script_part I.machine I.state (items.statement_part (stream_of I.machine)) self.old) (stood I.state self.new) (faults_in self.old) (faults_in self.new) }
+        ensures value { ParsesPart (stream_of I.machine) (ctx_in I.state self.old)
+            (λ x. inner x.part.value) (program.item_errors (syntax_in I.state self.old) top_level)
+            result (script_part I.machine I.state (items.statement_part (stream_of I.machine))
+            self.old) (stood I.state self.new) (faults_in self.old) (faults_in self.new) }
         ensures holds { IfOk result (λ x. holds_stmt x.part.value) }
         ensures keeps { Keeps I.state result self.old self.new }
-        ensures stays { StayRead (stream_of I.machine) result (script_start I.machine I.state self.old) (stood I.state self.new) }
+        ensures stays { StayRead (stream_of I.machine) result
+            (script_start I.machine I.state self.old) (stood I.state self.new) }
     {
         self.parse_part(&Statement { top_level })
     }
@@ -143,10 +174,14 @@ impl<'a, I: Tokens<'a> + Drop> Entries<Reading<'a, I>> {
     ///
     /// Want of memory, a text that nests deeper than the limit, or a fault of the text.
     pub fn parse_stmt_list_item(&mut self, top_level: bool) -> PResult<StmtBox>
-        ensures value { ParsesPart (stream_of I.machine) (ctx_in I.state self.old) (λ x. inner x.part.value) (program.item_errors (syntax_in I.state self.old) top_level) result (script_part I.machine I.state (items.list_item_part (stream_of I.machine)) self.old) (stood I.state self.new) (faults_in self.old) (faults_in self.new) }
+        ensures value { ParsesPart (stream_of I.machine) (ctx_in I.state self.old)
+            (λ x. inner x.part.value) (program.item_errors (syntax_in I.state self.old) top_level)
+            result (script_part I.machine I.state (items.list_item_part (stream_of I.machine))
+            self.old) (stood I.state self.new) (faults_in self.old) (faults_in self.new) }
         ensures holds { IfOk result (λ x. holds_stmt x.part.value) }
         ensures keeps { Keeps I.state result self.old self.new }
-        ensures stays { StayRead (stream_of I.machine) result (script_start I.machine I.state self.old) (stood I.state self.new) }
+        ensures stays { StayRead (stream_of I.machine) result
+            (script_start I.machine I.state self.old) (stood I.state self.new) }
     {
         self.parse_part(&ListItem { top_level })
     }
@@ -159,10 +194,14 @@ impl<'a, I: Tokens<'a> + Drop> Entries<Reading<'a, I>> {
     /// Want of memory, a text that nests deeper than the limit, or a fault of the text.
     #[tactic(auto, unfolding(crate::specs::Parts::left_in))]
     pub fn parse_module_item(&mut self) -> PResult<ModuleItem>
-        ensures value { ParsesPart (stream_of I.machine) (ctx_in I.state self.old) (view_module_item inner) (early.faults_in (outermost (syntax_in I.state self.old) true)) result (module_part I.machine I.state (items.module_item_part (stream_of I.machine)) self.old) (stood I.state self.new) (faults_in self.old) (faults_in self.new) }
+        ensures value { ParsesPart (stream_of I.machine) (ctx_in I.state self.old)
+            (view_module_item inner) (early.faults_in (outermost (syntax_in I.state self.old) true))
+            result (module_part I.machine I.state (items.module_item_part (stream_of I.machine))
+            self.old) (stood I.state self.new) (faults_in self.old) (faults_in self.new) }
         ensures fits { IfOk result (λ x. fits_module_item (λ p. p) x) }
         ensures keeps { Keeps I.state result self.old self.new }
-        ensures stays { StayRead (stream_of I.machine) result (module_start I.machine I.state self.old) (stood I.state self.new) }
+        ensures stays { StayRead (stream_of I.machine) result
+            (module_start I.machine I.state self.old) (stood I.state self.new) }
     {
         let before = self.reading.input.ctx();
         let answer = self.module_item();
@@ -210,7 +249,8 @@ impl<'a, I: Tokens<'a> + Drop> Entries<Reading<'a, I>> {
     pub(crate) fn leave(&mut self, before: Context)
         ensures stand { stood I.state self.new ≡ spec.retold (stream_of I.machine) before (stood I.state self.old) }
         ensures context { ctx_in I.state self.new ≡ before }
-        ensures same { spec.bound (stream_of I.machine) (stood I.state self.new) ≡ spec.bound (stream_of I.machine) (stood I.state self.old) }
+        ensures same { spec.bound (stream_of I.machine) (stood I.state self.new)
+            ≡ spec.bound (stream_of I.machine) (stood I.state self.old) }
         ensures started { self.new.started ≡ self.old.started }
         ensures limit { limit_in self.new ≡ limit_in self.old }
         ensures faults { faults_in self.new ≡ faults_in self.old }
@@ -220,7 +260,8 @@ impl<'a, I: Tokens<'a> + Drop> Entries<Reading<'a, I>> {
 
     /// Puts faults behind those that were recorded.
     pub(crate) fn record(&mut self, found: Vec<Error>) -> Result<(), Failure>
-        ensures faults { MatchResult result (λ _. faults_in self.new ≡ faults_in self.old ++ found.items) (λ _. faults_in self.new ≡ faults_in self.old) }
+        ensures faults { MatchResult result (λ _. faults_in self.new ≡ faults_in self.old
+            ++ found.items) (λ _. faults_in self.new ≡ faults_in self.old) }
         ensures reading { self.new.reading ≡ self.old.reading }
         ensures started { self.new.started ≡ self.old.started }
         ensures limit { limit_in self.new ≡ limit_in self.old }
@@ -234,11 +275,15 @@ impl<'a, I: Tokens<'a> + Drop> Entries<Reading<'a, I>> {
     /// An item of a module.
     #[tactic(auto, using(crate::proofs::Read::fails_read))]
     fn module_item(&mut self) -> Result<ModuleItem, Failure>
-        ensures value { ReadsPart (stream_of I.machine) (view_module_item inner) (early.faults_in (outermost (syntax_in I.state self.old) true)) result (module_part I.machine I.state (items.module_item_part (stream_of I.machine)) self.old) (stood I.state self.new) (faults_in self.old) (faults_in self.new) }
+        ensures value { ReadsPart (stream_of I.machine) (view_module_item inner)
+            (early.faults_in (outermost (syntax_in I.state self.old) true)) result
+            (module_part I.machine I.state (items.module_item_part (stream_of I.machine)) self.old)
+            (stood I.state self.new) (faults_in self.old) (faults_in self.new) }
         ensures fits { IfOk result (λ x. fits_module_item (λ p. p) x) }
         ensures started { IfOk result (λ _. self.new.started ≡ true) }
         ensures limit { limit_in self.new ≡ limit_in self.old }
-        ensures stays { Stays result (spec.bound (stream_of I.machine) (stood I.state self.new)) (spec.bound (stream_of I.machine) (module_start I.machine I.state self.old)) }
+        ensures stays { Stays result (spec.bound (stream_of I.machine) (stood I.state self.new))
+            (spec.bound (stream_of I.machine) (module_start I.machine I.state self.old)) }
     {
         let code = self.open_module()?;
         let item = module_item_part(&mut self.reading, self.limit, code)?;

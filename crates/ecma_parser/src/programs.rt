@@ -63,10 +63,13 @@ impl<'a, I: Tokens<'a> + Drop> Entries<Reading<'a, I>> {
     ///
     /// Want of memory, a text that nests deeper than the limit, or a fault of the text.
     pub fn parse_script(&mut self) -> PResult<Script>
-        ensures value { Parses (view_script inner) (syntax_in I.state self.old) (spec.bound (stream_of I.machine) (stood I.state self.new)) result (script_read I.machine I.state self.old) (faults_in self.old) (faults_in self.new) }
+        ensures value { Parses (view_script inner) (syntax_in I.state self.old)
+            (spec.bound (stream_of I.machine) (stood I.state self.new)) result
+            (script_read I.machine I.state self.old) (faults_in self.old) (faults_in self.new) }
         ensures fits { IfOk result (λ x. fits_script (λ p. p) x) }
         ensures keeps { Keeps I.state result self.old self.new }
-        ensures stays { StayRead (stream_of I.machine) result (script_start I.machine I.state self.old) (stood I.state self.new) }
+        ensures stays { StayRead (stream_of I.machine) result
+            (script_start I.machine I.state self.old) (stood I.state self.new) }
     {
         match self.read_script() {
             Ok(script) => Ok(script),
@@ -80,10 +83,13 @@ impl<'a, I: Tokens<'a> + Drop> Entries<Reading<'a, I>> {
     ///
     /// Want of memory, a text that nests deeper than the limit, or a fault of the text.
     pub fn read_script(&mut self) -> Result<Script, Failure>
-        ensures value { ReadsProgram (view_script inner) (syntax_in I.state self.old) (spec.bound (stream_of I.machine) (stood I.state self.new)) result (script_read I.machine I.state self.old) (faults_in self.old) (faults_in self.new) }
+        ensures value { ReadsProgram (view_script inner) (syntax_in I.state self.old)
+            (spec.bound (stream_of I.machine) (stood I.state self.new)) result
+            (script_read I.machine I.state self.old) (faults_in self.old) (faults_in self.new) }
         ensures fits { IfOk result (λ x. fits_script (λ p. p) x) }
         ensures keeps { Keeps I.state result self.old self.new }
-        ensures stays { Stays result (spec.bound (stream_of I.machine) (stood I.state self.new)) (spec.bound (stream_of I.machine) (script_start I.machine I.state self.old)) }
+        ensures stays { Stays result (spec.bound (stream_of I.machine) (stood I.state self.new))
+            (spec.bound (stream_of I.machine) (script_start I.machine I.state self.old)) }
     {
         let before = self.reading.input.ctx();
         let script = self.script();
@@ -97,10 +103,13 @@ impl<'a, I: Tokens<'a> + Drop> Entries<Reading<'a, I>> {
     ///
     /// Want of memory, a text that nests deeper than the limit, or a fault of the text.
     pub fn parse_module(&mut self) -> PResult<Module>
-        ensures value { Parses (view_module inner) (syntax_in I.state self.old) (spec.bound (stream_of I.machine) (stood I.state self.new)) result (module_read I.machine I.state self.old) (faults_in self.old) (faults_in self.new) }
+        ensures value { Parses (view_module inner) (syntax_in I.state self.old)
+            (spec.bound (stream_of I.machine) (stood I.state self.new)) result
+            (module_read I.machine I.state self.old) (faults_in self.old) (faults_in self.new) }
         ensures fits { IfOk result (λ x. fits_module (λ p. p) x) }
         ensures keeps { Keeps I.state result self.old self.new }
-        ensures stays { StayRead (stream_of I.machine) result (module_start I.machine I.state self.old) (stood I.state self.new) }
+        ensures stays { StayRead (stream_of I.machine) result
+            (module_start I.machine I.state self.old) (stood I.state self.new) }
     {
         match self.read_module() {
             Ok(module) => Ok(module),
@@ -114,10 +123,13 @@ impl<'a, I: Tokens<'a> + Drop> Entries<Reading<'a, I>> {
     ///
     /// Want of memory, a text that nests deeper than the limit, or a fault of the text.
     pub fn read_module(&mut self) -> Result<Module, Failure>
-        ensures value { ReadsProgram (view_module inner) (syntax_in I.state self.old) (spec.bound (stream_of I.machine) (stood I.state self.new)) result (module_read I.machine I.state self.old) (faults_in self.old) (faults_in self.new) }
+        ensures value { ReadsProgram (view_module inner) (syntax_in I.state self.old)
+            (spec.bound (stream_of I.machine) (stood I.state self.new)) result
+            (module_read I.machine I.state self.old) (faults_in self.old) (faults_in self.new) }
         ensures fits { IfOk result (λ x. fits_module (λ p. p) x) }
         ensures keeps { Keeps I.state result self.old self.new }
-        ensures stays { Stays result (spec.bound (stream_of I.machine) (stood I.state self.new)) (spec.bound (stream_of I.machine) (module_start I.machine I.state self.old)) }
+        ensures stays { Stays result (spec.bound (stream_of I.machine) (stood I.state self.new))
+            (spec.bound (stream_of I.machine) (module_start I.machine I.state self.old)) }
     {
         let before = self.reading.input.ctx();
         let module = self.module();
@@ -127,11 +139,14 @@ impl<'a, I: Tokens<'a> + Drop> Entries<Reading<'a, I>> {
 
     /// A script, in its own code.
     fn script(&mut self) -> Result<Script, Failure>
-        ensures value { ReadsProgram (view_script inner) (syntax_in I.state self.old) (spec.bound (stream_of I.machine) (stood I.state self.new)) result (script_read I.machine I.state self.old) (faults_in self.old) (faults_in self.new) }
+        ensures value { ReadsProgram (view_script inner) (syntax_in I.state self.old)
+            (spec.bound (stream_of I.machine) (stood I.state self.new)) result
+            (script_read I.machine I.state self.old) (faults_in self.old) (faults_in self.new) }
         ensures fits { IfOk result (λ x. fits_script (λ p. p) x) }
         ensures started { IfOk result (λ _. self.new.started ≡ true) }
         ensures limit { limit_in self.new ≡ limit_in self.old }
-        ensures stays { Stays result (spec.bound (stream_of I.machine) (stood I.state self.new)) (spec.bound (stream_of I.machine) (script_start I.machine I.state self.old)) }
+        ensures stays { Stays result (spec.bound (stream_of I.machine) (stood I.state self.new))
+            (spec.bound (stream_of I.machine) (script_start I.machine I.state self.old)) }
     {
         let Syntax::Es(syntax) = self.reading.input.syntax();
         let code = in_script(syntax);
@@ -144,11 +159,14 @@ impl<'a, I: Tokens<'a> + Drop> Entries<Reading<'a, I>> {
 
     /// A module, in its own code.
     fn module(&mut self) -> Result<Module, Failure>
-        ensures value { ReadsProgram (view_module inner) (syntax_in I.state self.old) (spec.bound (stream_of I.machine) (stood I.state self.new)) result (module_read I.machine I.state self.old) (faults_in self.old) (faults_in self.new) }
+        ensures value { ReadsProgram (view_module inner) (syntax_in I.state self.old)
+            (spec.bound (stream_of I.machine) (stood I.state self.new)) result
+            (module_read I.machine I.state self.old) (faults_in self.old) (faults_in self.new) }
         ensures fits { IfOk result (λ x. fits_module (λ p. p) x) }
         ensures started { IfOk result (λ _. self.new.started ≡ true) }
         ensures limit { limit_in self.new ≡ limit_in self.old }
-        ensures stays { Stays result (spec.bound (stream_of I.machine) (stood I.state self.new)) (spec.bound (stream_of I.machine) (module_start I.machine I.state self.old)) }
+        ensures stays { Stays result (spec.bound (stream_of I.machine) (stood I.state self.new))
+            (spec.bound (stream_of I.machine) (module_start I.machine I.state self.old)) }
     {
         let Syntax::Es(syntax) = self.reading.input.syntax();
         let code = in_module(syntax);

@@ -1,5 +1,4 @@
 pub mod Rows
-mod FactsNames
 mod FactsChoice
 mod FactsTexts
 mod FactsGoals

@@ -1,19 +1,9 @@
 -- Rows of facts: a program's text, and what its tree must give.
-use Rattle.std.proofs.Common.{◌≡◌, ℕ, true, false, if◌then◌else◌, List, [], ◌∷◌, ◌++◌, Result, Ok, Err, codes, bytes_eq}
+use Rattle.std.proofs.Common.{◌≡◌, ℕ, true, if◌then◌else◌, List, [], ◌∷◌, Result, Ok, Err, codes, bytes_eq}
 use Rattle.tree_spec.specs.Tree.{Tree}
 use Rattle.grammar_spec.specs.Reader.Source.{Fault}
 use Rattle.grammar_spec.proofs.reader.Rows.{full_syntax, read_text}
-use Rattle.grammar_text_spec.specs.Names.{Name, names}
 use Rattle.grammar_text_spec.specs.Choice.{tells_module}
-
-abbrev pub joined : List Name → List ℕ
-joined [] = []
-joined (n ∷ ns) = n.text ++ (32 ∷ joined ns)
-
--- the names of what is read, each followed by a blank
-abbrev pub names_told : Result Tree Fault → List ℕ
-names_told (Ok t) = joined (names t)
-names_told (Err e) = codes "no"
 
 -- whether what is read tells that it is a module
 abbrev pub telling_told : Result Tree Fault → List ℕ
@@ -24,13 +14,6 @@ pub record Row : Type 0 where
   pub text : List ℕ
   pub got : List ℕ
   pub wanted : List ℕ
-
--- the names of a script, and of a module
-unfoldable pub script_names : List ℕ → List ℕ → Row
-script_names text wanted = record { text = text; got = names_told (read_text false full_syntax text); wanted = wanted }
-
-unfoldable pub module_names : List ℕ → List ℕ → Row
-module_names text wanted = record { text = text; got = names_told (read_text true full_syntax text); wanted = wanted }
 
 -- what a text read as a module tells
 unfoldable pub module_tells : List ℕ → List ℕ → Row

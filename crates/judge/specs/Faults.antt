@@ -1,3 +1,2 @@
-pub mod Sorts
 pub mod Asked
 pub mod Rights

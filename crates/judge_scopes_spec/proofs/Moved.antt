@@ -26,7 +26,7 @@ pub has_moved : (p : Span → Span) (word : List ℕ) (ns : Names) → has_name 
 has_moved p word [] = refl
 has_moved p word (n ∷ ns) = ap (λ b. bytes_eq n.sym word || b) (has_moved p word ns)
 
-kept_by : (p : Span → Span) (n : Identifier) (us ns : Names) (b : Bool) → us ≡ all_moved p ns → cond b (moved p n ∷ us) us ≡ all_moved p (cond b (n ∷ ns) ns)
+pub kept_by : (p : Span → Span) (n : Identifier) (us ns : Names) (b : Bool) → us ≡ all_moved p ns → cond b (moved p n ∷ us) us ≡ all_moved p (cond b (n ∷ ns) ns)
 kept_by p n us ns true h = ap (λ r. moved p n ∷ r) h
 kept_by p n us ns false h = h
 
@@ -82,7 +82,7 @@ let_moved p (var_decl s k ds) = given_moved p (not (k == var_kind)) (all_bound_n
 let_moved p (using_decl s w ds) = all_bound_moved p ds
 let_moved p t = refl
 
-lexical_moved : (p : Span → Span) (top : Bool) (t : Tree) → lexical_names top (elsewhere p t) ≡ all_moved p (lexical_names top t)
+pub lexical_moved : (p : Span → Span) (top : Bool) (t : Tree) → lexical_names top (elsewhere p t) ≡ all_moved p (lexical_names top t)
 lexical_moved p top (var_decl s k ds) = let_moved p (var_decl s k ds)
 lexical_moved p top (using_decl s w ds) = all_bound_moved p ds
 lexical_moved p top (class_decl s n k) = name_moved p n
@@ -105,7 +105,7 @@ clause_moved p (more c cs) = clause_moved p cs
 -- ---- VarDeclaredNames
 
 mutual
-  var_moved : (p : Span → Span) (top : Bool) (t : Tree) → var_names top (elsewhere p t) ≡ all_moved p (var_names top t)
+  pub var_moved : (p : Span → Span) (top : Bool) (t : Tree) → var_names top (elsewhere p t) ≡ all_moved p (var_names top t)
   var_moved p top (var_decl s k ds) = given_moved p (k == var_kind) (all_bound_names ds) _ (all_bound_moved p ds)
   var_moved p top (fn_decl s n f) = given_moved p top (name_in n) _ (name_moved p n)
   var_moved p top (labeled_stmt s l b) = var_moved p top b

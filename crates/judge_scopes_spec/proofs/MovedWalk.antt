@@ -123,7 +123,7 @@ own_moved p t x = refl
 
 -- ---- the code around
 
-absent_moved : (p : Span → Span) (t : Tree) → is_absent (elsewhere p t) ≡ is_absent t
+pub absent_moved : (p : Span → Span) (t : Tree) → is_absent (elsewhere p t) ≡ is_absent t
 absent_moved p absent = refl
 absent_moved p t = refl
 
@@ -135,11 +135,11 @@ directive_moved : (p : Span → Span) (t : Tree) → is_directive (elsewhere p t
 directive_moved p (expr_stmt s (str_lit t u w)) = refl
 directive_moved p t = refl
 
-turns_moved : (p : Span → Span) (ts : Trees) → turns_strict (all_elsewhere p ts) ≡ turns_strict ts
+pub turns_moved : (p : Span → Span) (ts : Trees) → turns_strict (all_elsewhere p ts) ≡ turns_strict ts
 turns_moved p none = refl
 turns_moved p (more t ts) = ap₂ (λ a b. a || b) (use_moved p t) (ap₂ (λ a b. a && b) (directive_moved p t) (turns_moved p ts))
 
-strict_moved : (p : Span → Span) (t : Tree) → body_strict (elsewhere p t) ≡ body_strict t
+pub strict_moved : (p : Span → Span) (t : Tree) → body_strict (elsewhere p t) ≡ body_strict t
 strict_moved p (block_stmt s ss) = turns_moved p ss
 strict_moved p t = refl
 

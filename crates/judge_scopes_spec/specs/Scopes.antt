@@ -1,6 +1,6 @@
 -- What each name of a tree stands for (ECMA-262, 8.2, 9.1, 10.2.11 and clauses 13 to 16), and which words keep their meaning in all of a
 -- program. One walk carries the code around a node, and tells of the names in the order of the text. A node says what is told of itself
--- (`own`) and the code around each of its parts (`inside`); a fault of names would be one more case of `Told`, and told by `own`.
+-- (`own`) and the code around each of its parts (`inside`). Faults of names are a walk of the same form (`judge_names_spec`).
 use Rattle.std.specs.Prelude.{ℕ, Bool, true, false, not, ◌||◌, ◌+◌, nat_lt, if◌then◌else◌, List, [], ◌∷◌, ◌++◌, map, length, Option, Some, None, codes, bytes_eq}
 use Rattle.base_token.specs.declared.place.Span.{Span}
 use Rattle.tree_spec.specs.Tree.{Tree, Trees, none, more, script, es_module, export_decl, named_export, export_default_decl, import_named_specifier, export_namespace_specifier, export_default_specifier, export_named_specifier, block_stmt, with_stmt, labeled_stmt, break_stmt, continue_stmt, if_stmt, switch_stmt, for_stmt, for_in_stmt, for_of_stmt, catch_clause, class_decl, var_decl, function, constructor, static_block, getter_prop, setter_prop, object_lit, fn_expr, class_expr, arrow_expr, call_expr, paren_expr, ident}

@@ -178,6 +178,26 @@ impl<'a, I: Tokens<'a> + Drop> Rewinding<I> {
         Ok(())
     }
 
+    /// The next token where it keeps what it takes to go back, or has kept it.
+    ///
+    /// # Errors
+    ///
+    /// Want of memory.
+    #[inline(never)]
+    fn next_slowly(&mut self) -> Result<Option<TokenAndSpan<'a>>, Error>
+        ensures value { StepGives result (I.machine.step (I.state self.old.input)) (I.state self.new.input) }
+        ensures falls { IfOk result (λ t. MatchOption t (I.machine.bound (I.state self.new.input).tokens ≤ I.machine.bound (I.state self.old.input).tokens)
+            (λ _. I.machine.bound (I.state self.new.input).tokens < I.machine.bound (I.state self.old.input).tokens)) }
+        ensures told { SameTold (I.state self.old.input).settings (I.state self.new.input).settings }
+        ensures led { IsLed I.machine I.state self.old → IsLed I.machine I.state self.new }
+    {
+        if self.keeps {
+            return self.next_kept();
+        }
+        self.copy = None;
+        self.input.next()
+    }
+
     /// The next token, in front of which it can go back.
     ///
     /// # Errors
@@ -215,6 +235,7 @@ impl<'a, I: Tokens<'a> + Drop> Tokens<'a> for Rewinding<I> {
 
     ghost with_open = { λ x contexts. record x { input = I.with_open x.input contexts; copy = None } };
 
+    #[inline(always)]
     fn next(&mut self) -> Result<Option<TokenAndSpan<'a>>, Error>
         ensures value { StepGives result (I.machine.step (I.state self.old.input)) (I.state self.new.input) }
         ensures falls { IfOk result (λ t. MatchOption t (I.machine.bound (I.state self.new.input).tokens ≤ I.machine.bound (I.state self.old.input).tokens)
@@ -222,10 +243,9 @@ impl<'a, I: Tokens<'a> + Drop> Tokens<'a> for Rewinding<I> {
         ensures told { SameTold (I.state self.old.input).settings (I.state self.new.input).settings }
         ensures led { IsLed I.machine I.state self.old → IsLed I.machine I.state self.new }
     {
-        if self.keeps {
-            return self.next_kept();
+        if self.keeps || self.copy.is_some() {
+            return self.next_slowly();
         }
-        self.copy = None;
         self.input.next()
     }
 

@@ -106,17 +106,17 @@ no_slash text x rest (inr (inr h)) =
 -- ---- what a token leaves
 
 -- behind any token, one that takes a character
-after_any : (kind : ℕ) (from : List ℕ) (n : ℕ) → n < length from → bound_by (last_after kind from) n ≤ 3 * length from
+after_any : (kind : ℕ) (from : List ℕ) (n : ℕ) → n < length from → bound_by (last_after kind from) n ≤ 4 * length from + 1
 after_any kind from n h = ⊎_elim
     (λ (t : (kind == template_kind) ≡ true). rw t (omega (arith, h)))
     (λ (f : (kind == template_kind) ≡ false). ⊎_elim
-    (λ (t : slashes kind ≡ true). rw f (rw t (let k : 3 * n + 2 ≤ 3 * length from = omega (arith, h) in max-le k (omega arith))))
+    (λ (t : slashes kind ≡ true). rw f (rw t (let k : 4 * n + 3 ≤ 4 * length from + 1 = omega (arith, h) in max-le k (omega arith))))
     (λ (g : slashes kind ≡ false). rw f (rw g (omega (arith, h))))
     (cases_Bool (slashes kind)))
     (cases_Bool (kind == template_kind))
 
 -- behind one that is no slash
-after_other : (kind : ℕ) (from : List ℕ) (n : ℕ) → slashes kind ≡ false → bound_by (last_after kind from) n ≤ 3 * n + 2
+after_other : (kind : ℕ) (from : List ℕ) (n : ℕ) → slashes kind ≡ false → bound_by (last_after kind from) n ≤ 4 * n + 3
 after_other kind from n g = ⊎_elim
     (λ (t : (kind == template_kind) ≡ true). rw t (omega arith))
     (λ (f : (kind == template_kind) ≡ false). rw f (rw g (omega arith)))
@@ -125,7 +125,7 @@ after_other kind from n g = ⊎_elim
 characters_kind : (text : List ℕ) (x : SpecLexeme) (rest : List ℕ) → IsCharacters text x rest → x.token.kind ≡ template_kind
 characters_kind text x rest h = ap (λ (l : SpecLexeme). l.token.kind) h.6
 
-after_characters : (kind : ℕ) (from : List ℕ) (n : ℕ) → kind ≡ template_kind → bound_by (last_after kind from) n ≡ 3 * n + 1
+after_characters : (kind : ℕ) (from : List ℕ) (n : ℕ) → kind ≡ template_kind → bound_by (last_after kind from) n ≡ 4 * n + 2
 after_characters kind from n e = rw e refl
 
 ending_no_slash : (ending : Ending) → slashes (ending_kind ending) ≡ false
@@ -135,9 +135,9 @@ ending_no_slash Substitution = refl
 -- ---- before a step
 
 -- At least this many may come where characters are left and nothing went wrong.
-least : (last : Last) (n : ℕ) → last ≢ Fault → 3 * n < bound_by last n
+least : (last : Last) (n : ℕ) → last ≢ Fault → 4 * n + 1 < bound_by last n
 least Start n h = omega arith
-least (Slash from) n h = let k = le-max_left (3 * n + 2) (3 * length from) in omega (arith, k)
+least (Slash from) n h = let k = le-max_left (4 * n + 3) (4 * length from + 1) in omega (arith, k)
 least Characters n h = omega arith
 least Fault n h = absurd (h refl)
 least Other n h = omega arith
@@ -145,9 +145,9 @@ least Other n h = omega arith
 fewer : (last : Last) (n : ℕ) → bound_by last 0 ≤ bound_by last n
 fewer Start n = omega arith
 fewer (Slash from) n =
-    let k = le-max_left (3 * n + 2) (3 * length from) in
-    let l = le-max_right (3 * n + 2) (3 * length from) in
-    let m : 2 ≤ max (3 * n + 2) (3 * length from) = omega (arith, k) in
+    let k = le-max_left (4 * n + 3) (4 * length from + 1) in
+    let l = le-max_right (4 * n + 3) (4 * length from + 1) in
+    let m : 3 ≤ max (4 * n + 3) (4 * length from + 1) = omega (arith, k) in
     max-le m l
 fewer Characters n = omega arith
 fewer Fault n = omega arith
@@ -197,10 +197,10 @@ outside_falls Other s new out n h = plain_falls s new out n h
 
 -- ---- inside a template
 
--- At least two more than three a character may come where a template's characters may.
-room : (last : Last) (n : ℕ) → last ≢ Fault → last ≢ Characters → 3 * n + 1 < bound_by last n
+-- At least three more than four a character may come where a template's characters may.
+room : (last : Last) (n : ℕ) → last ≢ Fault → last ≢ Characters → 4 * n + 2 < bound_by last n
 room Start n h g = omega arith
-room (Slash from) n h g = let k = le-max_left (3 * n + 2) (3 * length from) in omega (arith, k)
+room (Slash from) n h g = let k = le-max_left (4 * n + 3) (4 * length from + 1) in omega (arith, k)
 room Characters n h g = absurd (g refl)
 room Fault n h g = absurd (h refl)
 room Other n h g = omega arith
@@ -246,9 +246,9 @@ going_by (Some RegExp) s new out n e h = other_falls RegExp s new out (λ k. cc)
 again_falls : (from : List ℕ) (s new : State) (out : Option Spot) → s.tokens.last ≡ Slash from → IsRead RegExp s.tokens.line_break from s out new
     → Falls out (bound s.tokens) (bound new.tokens)
 again_falls from s new out e h =
-    let here : bound s.tokens ≡ max (3 * length s.tokens.left + 2) (3 * length from) = ap (λ l. bound_by l (length s.tokens.left)) e in
-    let l = le-max_right (3 * length s.tokens.left + 2) (3 * length from) in
-    let k = le-max_left (3 * length s.tokens.left + 2) (3 * length from) in
+    let here : bound s.tokens ≡ max (4 * length s.tokens.left + 3) (4 * length from + 1) = ap (λ l. bound_by l (length s.tokens.left)) e in
+    let l = le-max_right (4 * length s.tokens.left + 3) (4 * length from + 1) in
+    let k = le-max_left (4 * length s.tokens.left + 3) (4 * length from + 1) in
     read_falls RegExp s.tokens.line_break from s new out
     (λ x rest g.
     let a = after_other x.token.kind from (length rest) (no_slash from x rest g) in

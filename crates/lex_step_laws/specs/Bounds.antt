@@ -4,12 +4,13 @@ use Rattle.base_token.specs.Tokens.{Spot}
 use Rattle.lex_step_laws.specs.States.{Last, Slash, Characters, Fault, Text}
 
 -- A bound on the tokens to come, by what came last and how many characters are left: a token takes a character at least, but for the
--- characters of a template, which may be none and don't come twice on end. A slash may come again, with the text behind it.
+-- characters of a template, which may be none and don't come twice on end. A slash may come again, with the text behind it. Four are counted for a character,
+-- so that the bound tells how many characters are left.
 abbrev pub bound_by : Last → ℕ → ℕ
 bound_by Fault n = 0
-bound_by Characters n = 3 * n + 1
-bound_by (Slash from) n = max (3 * n + 2) (3 * length from)
-bound_by _ n = 3 * n + 2
+bound_by Characters n = 4 * n + 2
+bound_by (Slash from) n = max (4 * n + 3) (4 * length from + 1)
+bound_by _ n = 4 * n + 3
 
 abbrev pub bound : Text → ℕ
 bound t = bound_by t.last (length t.left)

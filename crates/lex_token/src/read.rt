@@ -74,6 +74,7 @@ pub fn read_token(
     ensures rest { IfOk result (λ o. IfSome o (λ l. IsUtf8 l.rest.now × (length l.rest.now ≤ length text.now))) }
 {
     match goal {
+        // For the proof: two arms, since an arm of both says only that the goal is one of them.
         LexicalGoal::Div => token_or_end(alloc, LexicalGoal::Div, text, end),
         LexicalGoal::RegExp => token_or_end(alloc, LexicalGoal::RegExp, text, end),
         LexicalGoal::TemplateTail => Ok(Some(template(alloc, text, end)?)),

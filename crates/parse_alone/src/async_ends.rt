@@ -50,7 +50,8 @@ pub fn sequence_async_end(code: Around, expr: &Expr) -> Option<Around>
 /// The same of the initialiser of the last parameter.
 pub fn params_async_end(code: Around, params: &[Param]) -> Option<Around>
     requires { All (λ x. fits_param (λ p. p) x) params.now }
-    ensures { option_map code_of result ≡ ends.async_end (code_of code) (ends.last_initial (map (view_param inner) params.now)) }
+    ensures { option_map code_of result ≡ ends.async_end (code_of code)
+        (ends.last_initial (map (view_param inner) params.now)) }
 {
     let param = params.last()?;
     match &param.pat.get().kind {

@@ -14,7 +14,8 @@ use tree_nodes::{ObjectPatProp, PatKind, Prop, PropOrSpread};
 /// Where a property of an object ends with that word in the place of an arrow, the code there.
 pub fn prop_async_end(code: Around, prop: &PropOrSpread) -> Option<Around>
     requires { fits_prop_or_spread (λ p. p) prop.now }
-    ensures { option_map code_of result ≡ ends.async_end (code_of code) (value_of (view_prop_or_spread inner prop.now)) }
+    ensures { option_map code_of result ≡ ends.async_end (code_of code)
+        (value_of (view_prop_or_spread inner prop.now)) }
 {
     match prop {
         PropOrSpread::Spread(spread) => async_end(code, spread.expr.get()),
@@ -28,7 +29,8 @@ pub fn prop_async_end(code: Around, prop: &PropOrSpread) -> Option<Around>
 /// The same of a property of a pattern.
 pub fn item_async_end(code: Around, prop: &ObjectPatProp) -> Option<Around>
     requires { fits_object_pat_prop (λ p. p) prop.now }
-    ensures { option_map code_of result ≡ ends.async_end (code_of code) (value_of (view_object_pat_prop inner prop.now)) }
+    ensures { option_map code_of result ≡ ends.async_end (code_of code)
+        (value_of (view_object_pat_prop inner prop.now)) }
 {
     match prop {
         ObjectPatProp::KeyValue(pair) => match &pair.value.get().kind {

@@ -5,11 +5,9 @@ ghost use Rattle.tree_nodes.specs.Fits.{fits_module_item};
 ghost use Rattle.tree_nodes.specs.Placed.{holds_stmt, inner};
 ghost use Rattle.tree_nodes.specs.View.{view_module_item};
 ghost use Rattle.grammar_spec.specs.Tokens.Shape as shape;
-ghost use Rattle.grammar_spec.specs.Reader.Source as spec;
-ghost use Rattle.parse_state.specs.Answers.{Gives, Stays};
 ghost use Rattle.parse_state.specs.Codes.{code_of};
-ghost use Rattle.parse_state.specs.Cursors.{stream_of};
-ghost use Rattle.parse_state.specs.States.{state_of};
+ghost use Rattle.parse_state.specs.Reads.{ReadsAs, NotLonger};
+ghost use Rattle.parse_operands.specs.Operands.{tree_in};
 ghost use Rattle.parse_alone.specs.Items as parts;
 
 use crate::settle::{left_over, settle};
@@ -44,9 +42,10 @@ pub fn statement_part<'a, I: Tokens<'a> + Drop>(
     code: Around,
 ) -> Result<StmtBox, Failure>
     requires { limit < 4294967295 }
-    ensures value { Gives (λ x. (inner x.part.value, state_of I.state p.new)) (spec.bound (stream_of I.machine) (state_of I.state p.new)) result (parts.statement_part (stream_of I.machine) limit (code_of code) (state_of I.state p.old)) }
+    ensures value { ReadsAs I.machine I.state p.old p.new result
+        tree_in (λ m. parts.statement_part m limit (code_of code)) }
     ensures holds { IfOk result (λ x. holds_stmt x.part.value) }
-    ensures not_longer { Stays result (spec.bound (stream_of I.machine) (state_of I.state p.new)) (spec.bound (stream_of I.machine) (state_of I.state p.old)) }
+    ensures not_longer { NotLonger I.machine I.state p.old p.new result }
 {
     let start = p.lo();
     let stmt = parse_stmt(p, limit, alone(code))?;
@@ -68,9 +67,10 @@ pub fn list_item_part<'a, I: Tokens<'a> + Drop>(
     code: Around,
 ) -> Result<StmtBox, Failure>
     requires { limit < 4294967295 }
-    ensures value { Gives (λ x. (inner x.part.value, state_of I.state p.new)) (spec.bound (stream_of I.machine) (state_of I.state p.new)) result (parts.list_item_part (stream_of I.machine) limit (code_of code) (state_of I.state p.old)) }
+    ensures value { ReadsAs I.machine I.state p.old p.new result
+        tree_in (λ m. parts.list_item_part m limit (code_of code)) }
     ensures holds { IfOk result (λ x. holds_stmt x.part.value) }
-    ensures not_longer { Stays result (spec.bound (stream_of I.machine) (state_of I.state p.new)) (spec.bound (stream_of I.machine) (state_of I.state p.old)) }
+    ensures not_longer { NotLonger I.machine I.state p.old p.new result }
 {
     let start = p.lo();
     let stmt = parse_stmt(p, limit, in_list(code))?;
@@ -89,9 +89,10 @@ pub fn module_item_part<'a, I: Tokens<'a> + Drop>(
     code: Around,
 ) -> Result<ModuleItem, Failure>
     requires { limit < 4294967295 }
-    ensures value { Gives (λ x. (view_module_item inner x, state_of I.state p.new)) (spec.bound (stream_of I.machine) (state_of I.state p.new)) result (parts.module_item_part (stream_of I.machine) limit (code_of code) (state_of I.state p.old)) }
+    ensures value { ReadsAs I.machine I.state p.old p.new result
+        (view_module_item inner) (λ m. parts.module_item_part m limit (code_of code)) }
     ensures fits { IfOk result (λ x. fits_module_item (λ p. p) x) }
-    ensures not_longer { Stays result (spec.bound (stream_of I.machine) (state_of I.state p.new)) (spec.bound (stream_of I.machine) (state_of I.state p.old)) }
+    ensures not_longer { NotLonger I.machine I.state p.old p.new result }
 {
     let start = p.lo();
     p.operand()?;

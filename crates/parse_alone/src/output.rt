@@ -48,7 +48,8 @@ pub trait OutputType: Sized {
         function: Box<Function>,
     ) -> Result<Self, SyntaxError>
         requires { fits_function (λ p. p) function.value }
-        ensures value { IfOk result (λ x. tree x ≡ of_fn span (part_by view_ident ident) (view_function inner function.value)) }
+        ensures value { IfOk result (λ x. tree x
+            ≡ of_fn span (part_by view_ident ident) (view_function inner function.value)) }
         ensures missing { IfErr result (λ e. e ≢ Memory → (IS_IDENT_REQUIRED ≡ true) × (ident ≡ None)) };
 
     /// A class, with its name where it has one.
@@ -63,7 +64,8 @@ pub trait OutputType: Sized {
         class: Box<Class>,
     ) -> Result<Self, SyntaxError>
         requires { fits_class (λ p. p) class.value }
-        ensures value { IfOk result (λ x. tree x ≡ of_class span (part_by view_ident ident) (view_class inner class.value)) }
+        ensures value { IfOk result (λ x. tree x
+            ≡ of_class span (part_by view_ident ident) (view_class inner class.value)) }
         ensures missing { IfErr result (λ e. e ≢ Memory → (IS_IDENT_REQUIRED ≡ true) × (ident ≡ None)) };
 }
 

@@ -3,11 +3,12 @@ ghost use Rattle.std.specs.Prelude.{◌≡◌, ◌<◌, All, IfOk, IsTrue, map};
 ghost use Rattle.tree_nodes.specs.Fits.{fits_param};
 ghost use Rattle.tree_nodes.specs.Placed.{inner};
 ghost use Rattle.tree_nodes.specs.View.{view_param};
-ghost use Rattle.grammar_spec.specs.Reader.Source as spec;
-ghost use Rattle.parse_state.specs.Answers.{Gives, going_on, Stays};
+ghost use Rattle.parse_state.specs.Answers.{going_on};
 ghost use Rattle.parse_state.specs.Codes.{code_of};
 ghost use Rattle.parse_state.specs.Cursors.{stream_of};
 ghost use Rattle.parse_state.specs.States.{state_of};
+ghost use Rattle.parse_state.specs.Reads.{to_come, NotLonger};
+ghost use Rattle.parse_operands.specs.Rules.{ReadsBy};
 ghost use Rattle.parse_alone.specs.Parts as parts;
 
 use parse_functions::functions::{is_rest, parameter};
@@ -34,10 +35,12 @@ pub fn bare_turn<'a, I: Tokens<'a> + Drop, N: Nested<'a, I>>(
 ) -> Result<bool, Failure>
     requires ready { N.ready nested.now }
     requires fits { All (λ x. fits_param (λ p. p) x) params.old.items }
-    ensures value { Gives (λ x. (going_on x (map (view_param inner) params.new.items), state_of I.state p.new)) (spec.bound (stream_of I.machine) (state_of I.state p.new)) result (parts.bare_step (stream_of I.machine) (N.reads nested.now I.State I.machine) (code_of code) (map (view_param inner) params.old.items) (state_of I.state p.old)) }
+    ensures value { ReadsBy I.machine I.state (N.reads nested.now) p.old p.new result
+        (λ x. going_on x (map (view_param inner) params.new.items))
+        (λ m r. parts.bare_step m r (code_of code) (map (view_param inner) params.old.items)) }
     ensures fits { IfOk result (λ _. All (λ x. fits_param (λ p. p) x) params.new.items) }
-    ensures shorter { IfOk result (λ b. IsTrue b → spec.bound (stream_of I.machine) (state_of I.state p.new) < spec.bound (stream_of I.machine) (state_of I.state p.old)) }
-    ensures not_longer { Stays result (spec.bound (stream_of I.machine) (state_of I.state p.new)) (spec.bound (stream_of I.machine) (state_of I.state p.old)) }
+    ensures shorter { IfOk result (λ b. IsTrue b → to_come I.machine I.state p.new < to_come I.machine I.state p.old) }
+    ensures not_longer { NotLonger I.machine I.state p.old p.new result }
 {
     if !starts_param(p, code) {
         return Ok(false);
@@ -60,9 +63,10 @@ pub fn bare_params<'a, I: Tokens<'a> + Drop, N: Nested<'a, I>>(
     code: Around,
 ) -> Result<Vec<Param>, Failure>
     requires ready { N.ready nested.now }
-    ensures value { Gives (λ x. (map (view_param inner) x.items, state_of I.state p.new)) (spec.bound (stream_of I.machine) (state_of I.state p.new)) result (parts.bare_by (stream_of I.machine) (N.reads nested.now I.State I.machine) (code_of code) (state_of I.state p.old)) }
+    ensures value { ReadsBy I.machine I.state (N.reads nested.now) p.old p.new result
+        (λ x. map (view_param inner) x.items) (λ m r. parts.bare_by m r (code_of code)) }
     ensures fits { IfOk result (λ x. All (λ x. fits_param (λ p. p) x) x.items) }
-    ensures not_longer { Stays result (spec.bound (stream_of I.machine) (state_of I.state p.new)) (spec.bound (stream_of I.machine) (state_of I.state p.old)) }
+    ensures not_longer { NotLonger I.machine I.state p.old p.new result }
 {
     let mut params = Vec::new(p.alloc);
     'turns: while bare_turn(p, nested, code, &mut params)? {}

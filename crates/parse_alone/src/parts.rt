@@ -4,11 +4,9 @@ ghost use Rattle.tree_spec.specs.Tree.{list, trees_by};
 ghost use Rattle.tree_nodes.specs.Fits.{fits_param, fits_prop_name};
 ghost use Rattle.tree_nodes.specs.Placed.{holds_expr, holds_pat, inner};
 ghost use Rattle.tree_nodes.specs.View.{view_param, view_prop_name};
-ghost use Rattle.grammar_spec.specs.Reader.Source as spec;
-ghost use Rattle.parse_state.specs.Answers.{Gives, Stays};
 ghost use Rattle.parse_state.specs.Codes.{code_of};
-ghost use Rattle.parse_state.specs.Cursors.{stream_of};
-ghost use Rattle.parse_state.specs.States.{state_of};
+ghost use Rattle.parse_state.specs.Reads.{ReadsAs, NotLonger};
+ghost use Rattle.parse_operands.specs.Operands.{tree_in};
 ghost use Rattle.parse_alone.specs.Parts as parts;
 
 use crate::async_ends::{heads_arrow, params_async_end, sequence_async_end};
@@ -34,9 +32,10 @@ pub fn expression_part<'a, I: Tokens<'a> + Drop>(
     level: u8,
 ) -> Result<ExprBox, Failure>
     requires { limit < 4294967295 }
-    ensures value { Gives (λ x. (inner x.part.value, state_of I.state p.new)) (spec.bound (stream_of I.machine) (state_of I.state p.new)) result (parts.expression_part (stream_of I.machine) level limit (code_of code) (state_of I.state p.old)) }
+    ensures value { ReadsAs I.machine I.state p.old p.new result
+        tree_in (λ m. parts.expression_part m level limit (code_of code)) }
     ensures holds { IfOk result (λ x. holds_expr x.part.value) }
-    ensures not_longer { Stays result (spec.bound (stream_of I.machine) (state_of I.state p.new)) (spec.bound (stream_of I.machine) (state_of I.state p.old)) }
+    ensures not_longer { NotLonger I.machine I.state p.old p.new result }
 {
     let start = p.lo();
     let read = parse_expr(p, limit, code, level)?;
@@ -59,9 +58,10 @@ pub fn binding_part<'a, I: Tokens<'a> + Drop>(
     code: Around,
 ) -> Result<PatBox, Failure>
     requires { limit < 4294967295 }
-    ensures value { Gives (λ x. (inner x.part.value, state_of I.state p.new)) (spec.bound (stream_of I.machine) (state_of I.state p.new)) result (parts.binding_part (stream_of I.machine) limit (code_of code) (state_of I.state p.old)) }
+    ensures value { ReadsAs I.machine I.state p.old p.new result
+        tree_in (λ m. parts.binding_part m limit (code_of code)) }
     ensures holds { IfOk result (λ x. holds_pat x.part.value) }
-    ensures not_longer { Stays result (spec.bound (stream_of I.machine) (state_of I.state p.new)) (spec.bound (stream_of I.machine) (state_of I.state p.old)) }
+    ensures not_longer { NotLonger I.machine I.state p.old p.new result }
 {
     let start = p.lo();
     let pat = parse_pat(p, limit, code)?;
@@ -80,9 +80,10 @@ pub fn key_part<'a, I: Tokens<'a> + Drop>(
     code: Around,
 ) -> Result<PropName, Failure>
     requires { limit < 4294967295 }
-    ensures value { Gives (λ x. (view_prop_name inner x, state_of I.state p.new)) (spec.bound (stream_of I.machine) (state_of I.state p.new)) result (parts.key_part (stream_of I.machine) limit (code_of code) (state_of I.state p.old)) }
+    ensures value { ReadsAs I.machine I.state p.old p.new result
+        (view_prop_name inner) (λ m. parts.key_part m limit (code_of code)) }
     ensures fits { IfOk result (λ x. fits_prop_name (λ p. p) x) }
-    ensures not_longer { Stays result (spec.bound (stream_of I.machine) (state_of I.state p.new)) (spec.bound (stream_of I.machine) (state_of I.state p.old)) }
+    ensures not_longer { NotLonger I.machine I.state p.old p.new result }
 {
     let start = p.lo();
     let key = key(p, &Depth { levels: limit }, code)?;
@@ -101,9 +102,11 @@ pub fn parameters_part<'a, I: Tokens<'a> + Drop>(
     code: Around,
 ) -> Result<Vec<Param>, Failure>
     requires { limit < 4294967295 }
-    ensures value { Gives (λ x. (list (trees_by (view_param inner) x.items), state_of I.state p.new)) (spec.bound (stream_of I.machine) (state_of I.state p.new)) result (parts.parameters_part (stream_of I.machine) limit (code_of code) (state_of I.state p.old)) }
+    ensures value { ReadsAs I.machine I.state p.old p.new result
+        (λ x. list (trees_by (view_param inner) x.items))
+        (λ m. parts.parameters_part m limit (code_of code)) }
     ensures fits { IfOk result (λ x. All (λ x. fits_param (λ p. p) x) x.items) }
-    ensures not_longer { Stays result (spec.bound (stream_of I.machine) (state_of I.state p.new)) (spec.bound (stream_of I.machine) (state_of I.state p.old)) }
+    ensures not_longer { NotLonger I.machine I.state p.old p.new result }
 {
     let start = p.lo();
     let params = bare_params(p, &Depth { levels: limit }, code)?;

@@ -3,11 +3,9 @@ ghost use Rattle.std.specs.Prelude.{IfOk};
 ghost use Rattle.tree_nodes.specs.Fits.{fits_object_pat_prop};
 ghost use Rattle.tree_nodes.specs.Placed.{inner};
 ghost use Rattle.tree_nodes.specs.View.{view_object_pat_prop};
-ghost use Rattle.grammar_spec.specs.Reader.Source as spec;
-ghost use Rattle.parse_state.specs.Answers.{Gives, Stays};
 ghost use Rattle.parse_state.specs.Codes.{code_of};
-ghost use Rattle.parse_state.specs.Cursors.{stream_of};
-ghost use Rattle.parse_state.specs.States.{state_of};
+ghost use Rattle.parse_state.specs.Reads.{NotLonger};
+ghost use Rattle.parse_operands.specs.Rules.{ReadsBy};
 ghost use Rattle.parse_alone.specs.Props.{item_by};
 
 use parse_operands::Nested;
@@ -24,9 +22,10 @@ pub fn item<'a, I: Tokens<'a> + Drop, N: Nested<'a, I>>(
     code: Around,
 ) -> Result<ObjectPatProp, Failure>
     requires ready { N.ready nested.now }
-    ensures value { Gives (λ x. (view_object_pat_prop inner x, state_of I.state p.new)) (spec.bound (stream_of I.machine) (state_of I.state p.new)) result (item_by (stream_of I.machine) (N.reads nested.now I.State I.machine) (code_of code) (state_of I.state p.old)) }
+    ensures value { ReadsBy I.machine I.state (N.reads nested.now) p.old p.new result
+        (view_object_pat_prop inner) (λ m r. item_by m r (code_of code)) }
     ensures fits { IfOk result (λ x. fits_object_pat_prop (λ p. p) x) }
-    ensures not_longer { Stays result (spec.bound (stream_of I.machine) (state_of I.state p.new)) (spec.bound (stream_of I.machine) (state_of I.state p.old)) }
+    ensures not_longer { NotLonger I.machine I.state p.old p.new result }
 {
     if p.at(kinds::DOT_DOT_DOT) {
         return object_rest(p, nested, code);

@@ -3,11 +3,11 @@ ghost use Rattle.std.specs.Prelude.{◌<◌, false, true, IfOk};
 ghost use Rattle.tree_nodes.specs.Fits.{fits_module, fits_script};
 ghost use Rattle.tree_nodes.specs.Placed.{inner};
 ghost use Rattle.tree_nodes.specs.View.{view_module, view_script};
-ghost use Rattle.grammar_spec.specs.Reader.Source as spec;
-ghost use Rattle.parse_state.specs.Answers.{Gives, Stays};
+ghost use Rattle.parse_state.specs.Answers.{Gives};
 ghost use Rattle.parse_state.specs.Codes.{code_of};
 ghost use Rattle.parse_state.specs.Cursors.{stream_of};
 ghost use Rattle.parse_state.specs.States.{state_of};
+ghost use Rattle.parse_state.specs.Reads.{to_come, NotLonger};
 ghost use Rattle.parse_alone.specs.Within.{program_within};
 
 use crate::settle::unfinished;
@@ -30,9 +30,10 @@ pub fn script_within<'a, I: Tokens<'a> + Drop>(
     code: Around,
 ) -> Result<Script, Failure>
     requires { limit < 4294967295 }
-    ensures value { Gives (view_script inner) (spec.bound (stream_of I.machine) (state_of I.state p.new)) result (program_within (stream_of I.machine) limit false (code_of code) (state_of I.state p.old)) }
+    ensures value { Gives (view_script inner) (to_come I.machine I.state p.new) result
+        (program_within (stream_of I.machine) limit false (code_of code) (state_of I.state p.old)) }
     ensures fits { IfOk result (λ x. fits_script (λ p. p) x) }
-    ensures not_longer { Stays result (spec.bound (stream_of I.machine) (state_of I.state p.new)) (spec.bound (stream_of I.machine) (state_of I.state p.old)) }
+    ensures not_longer { NotLonger I.machine I.state p.old p.new result }
 {
     let script = script(p, &Depth { levels: limit }, code)?;
     if script.nesting() > limit {
@@ -56,9 +57,10 @@ pub fn module_within<'a, I: Tokens<'a> + Drop>(
     code: Around,
 ) -> Result<Module, Failure>
     requires { limit < 4294967295 }
-    ensures value { Gives (view_module inner) (spec.bound (stream_of I.machine) (state_of I.state p.new)) result (program_within (stream_of I.machine) limit true (code_of code) (state_of I.state p.old)) }
+    ensures value { Gives (view_module inner) (to_come I.machine I.state p.new) result
+        (program_within (stream_of I.machine) limit true (code_of code) (state_of I.state p.old)) }
     ensures fits { IfOk result (λ x. fits_module (λ p. p) x) }
-    ensures not_longer { Stays result (spec.bound (stream_of I.machine) (state_of I.state p.new)) (spec.bound (stream_of I.machine) (state_of I.state p.old)) }
+    ensures not_longer { NotLonger I.machine I.state p.old p.new result }
 {
     let program = module(p, &Depth { levels: limit }, code)?;
     if program.nesting() > limit {

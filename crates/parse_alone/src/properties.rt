@@ -3,11 +3,8 @@ ghost use Rattle.std.specs.Prelude.{◌<◌, IfOk};
 ghost use Rattle.tree_nodes.specs.Fits.{fits_object_pat_prop, fits_prop_or_spread};
 ghost use Rattle.tree_nodes.specs.Placed.{inner};
 ghost use Rattle.tree_nodes.specs.View.{view_object_pat_prop, view_prop_or_spread};
-ghost use Rattle.grammar_spec.specs.Reader.Source as spec;
-ghost use Rattle.parse_state.specs.Answers.{Gives, Stays};
 ghost use Rattle.parse_state.specs.Codes.{code_of};
-ghost use Rattle.parse_state.specs.Cursors.{stream_of};
-ghost use Rattle.parse_state.specs.States.{state_of};
+ghost use Rattle.parse_state.specs.Reads.{ReadsAs, NotLonger};
 ghost use Rattle.parse_alone.specs.Props as props;
 
 use crate::async_ends::heads_arrow;
@@ -31,9 +28,10 @@ pub fn prop_part<'a, I: Tokens<'a> + Drop>(
     code: Around,
 ) -> Result<PropOrSpread, Failure>
     requires { limit < 4294967295 }
-    ensures value { Gives (λ x. (view_prop_or_spread inner x, state_of I.state p.new)) (spec.bound (stream_of I.machine) (state_of I.state p.new)) result (props.prop_part (stream_of I.machine) limit (code_of code) (state_of I.state p.old)) }
+    ensures value { ReadsAs I.machine I.state p.old p.new result
+        (view_prop_or_spread inner) (λ m. props.prop_part m limit (code_of code)) }
     ensures fits { IfOk result (λ x. fits_prop_or_spread (λ p. p) x) }
-    ensures not_longer { Stays result (spec.bound (stream_of I.machine) (state_of I.state p.new)) (spec.bound (stream_of I.machine) (state_of I.state p.old)) }
+    ensures not_longer { NotLonger I.machine I.state p.old p.new result }
 {
     let start = p.lo();
     let prop = prop(p, &Depth { levels: limit }, code)?;
@@ -56,9 +54,10 @@ pub fn item_part<'a, I: Tokens<'a> + Drop>(
     code: Around,
 ) -> Result<ObjectPatProp, Failure>
     requires { limit < 4294967295 }
-    ensures value { Gives (λ x. (view_object_pat_prop inner x, state_of I.state p.new)) (spec.bound (stream_of I.machine) (state_of I.state p.new)) result (props.item_part (stream_of I.machine) limit (code_of code) (state_of I.state p.old)) }
+    ensures value { ReadsAs I.machine I.state p.old p.new result
+        (view_object_pat_prop inner) (λ m. props.item_part m limit (code_of code)) }
     ensures fits { IfOk result (λ x. fits_object_pat_prop (λ p. p) x) }
-    ensures not_longer { Stays result (spec.bound (stream_of I.machine) (state_of I.state p.new)) (spec.bound (stream_of I.machine) (state_of I.state p.old)) }
+    ensures not_longer { NotLonger I.machine I.state p.old p.new result }
 {
     let start = p.lo();
     let item = item(p, &Depth { levels: limit }, code)?;

@@ -1,10 +1,10 @@
 //! What is asked of each finished part: it nests no deeper than the limit, which is looked at first, and nothing of a cover
 //! is left in it.
 ghost use Rattle.std.specs.Prelude.{◌≡◌, ◌<◌, IfOk};
-ghost use Rattle.grammar_spec.specs.Reader.Source as spec;
 ghost use Rattle.parse_state.specs.Answers.{Gives, IsSyntax};
 ghost use Rattle.parse_state.specs.Cursors.{stream_of};
 ghost use Rattle.parse_state.specs.States.{state_of};
+ghost use Rattle.parse_state.specs.Reads.{to_come};
 ghost use Rattle.parse_alone.specs.Within as within;
 
 use crate::{cover_in, is_clean};
@@ -54,7 +54,9 @@ pub fn settle<'a, I: Tokens<'a> + Drop, T: Nesting + Walk + Drop>(
 ) -> Result<T, Failure>
     requires limit { limit < 4294967295 }
     requires tree { T.Walk.tree part ≡ T.Nesting.tree part }
-    ensures value { Gives (λ x. (T.Nesting.tree x, state_of I.state p.now)) (spec.bound (stream_of I.machine) (state_of I.state p.now)) result (within.settled (stream_of I.machine) limit (T.Nesting.tree part, state_of I.state p.now)) }
+    ensures value { Gives (λ x. (T.Nesting.tree x, state_of I.state p.now))
+        (to_come I.machine I.state p.now) result
+        (within.settled (stream_of I.machine) limit (T.Nesting.tree part, state_of I.state p.now)) }
     ensures stays { IfOk result (λ x. x ≡ part) }
 {
     if part.nesting() > limit {

@@ -1,13 +1,13 @@
 //! Arrow functions (15.3), after their parameters.
 ghost use Rattle.std.specs.Prelude.{◌≡◌, ◌≢◌, false, true, All, map};
 ghost use Rattle.tree_nodes.specs.Placed.{holds_pat, inner};
-ghost use Rattle.grammar_spec.specs.Reader.Source as spec;
 ghost use Rattle.grammar_spec.specs.Reader.Expressions as reads;
-ghost use Rattle.parse_state.specs.Answers.{Falls, Gives, Stays};
 ghost use Rattle.parse_state.specs.Codes.{code_of};
 ghost use Rattle.parse_state.specs.Cursors.{stream_of};
 ghost use Rattle.parse_state.specs.States.{from, from_span, state_of};
+ghost use Rattle.parse_state.specs.Reads.{Shorter, NotLonger};
 ghost use Rattle.parse_operands.specs.Operands.{tree_of};
+ghost use Rattle.parse_operands.specs.Rules.{ReadsBy};
 
 use crate::made;
 use base_token::{Atom, BytePos, Span};
@@ -23,7 +23,8 @@ pub fn is_arrow<'a, I: Tokens<'a> + Drop, N: Nested<'a, I>>(
     _nested: &N,
     level: u8,
 ) -> bool
-    ensures { result ≡ reads.arrows_at (stream_of I.machine) (N.reads _nested.now I.State I.machine) level (state_of I.state p.now) }
+    ensures { result ≡ reads.arrows_at (stream_of I.machine) (N.reads _nested.now I.State I.machine)
+        level (state_of I.state p.now) }
 {
     p.at(kinds::ARROW) && !p.breaks() && level <= ASSIGNMENT
 }
@@ -41,8 +42,11 @@ pub fn arrow<'a, I: Tokens<'a> + Drop, N: Nested<'a, I>>(
 ) -> Result<Operand, Failure>
     requires ready { N.ready nested.now }
     requires fits { All (λ y. holds_pat y.part.value) params.items }
-    ensures value { Gives (λ x. (tree_of x, state_of I.state p.new)) (spec.bound (stream_of I.machine) (state_of I.state p.new)) result (reads.arrow_by (stream_of I.machine) (N.reads nested.now I.State I.machine) (code_of code) (from start.0) is_async (map (λ y. inner y.part.value) params.items) (state_of I.state p.old)) }
-    ensures shorter { Falls result (spec.bound (stream_of I.machine) (state_of I.state p.new)) (spec.bound (stream_of I.machine) (state_of I.state p.old)) }
+    ensures value { ReadsBy I.machine I.state (N.reads nested.now) p.old p.new result
+        tree_of
+        (λ m r. reads.arrow_by m r (code_of code) (from start.0) is_async
+        (map (λ y. inner y.part.value) params.items)) }
+    ensures shorter { Shorter I.machine I.state p.old p.new result }
 {
     let params = Held { value: params };
     p.bump()?;
@@ -66,8 +70,9 @@ pub fn ident_end<'a, I: Tokens<'a> + Drop, N: Nested<'a, I>>(
     sym: Atom,
 ) -> Result<Operand, Failure>
     requires ready { N.ready nested.now }
-    ensures value { Gives (λ x. (tree_of x, state_of I.state p.new)) (spec.bound (stream_of I.machine) (state_of I.state p.new)) result (reads.ident_end (stream_of I.machine) (N.reads nested.now I.State I.machine) (code_of code) level (from_span place) sym (state_of I.state p.old)) }
-    ensures not_longer { Stays result (spec.bound (stream_of I.machine) (state_of I.state p.new)) (spec.bound (stream_of I.machine) (state_of I.state p.old)) }
+    ensures value { ReadsBy I.machine I.state (N.reads nested.now) p.old p.new result
+        tree_of (λ m r. reads.ident_end m r (code_of code) level (from_span place) sym) }
+    ensures not_longer { NotLonger I.machine I.state p.old p.new result }
 {
     if is_arrow(p, nested, level) {
         let params = made::one_param(p.alloc, place, sym)?;

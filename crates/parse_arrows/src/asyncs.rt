@@ -3,7 +3,6 @@ ghost use Rattle.std.specs.Prelude.{◌≡◌, ◌≢◌, false, true, IfOk};
 ghost use Rattle.grammar_spec.specs.Tokens.Input.{brk, kind, kind2, span};
 ghost use Rattle.grammar_spec.specs.Reader.Source as spec;
 ghost use Rattle.grammar_spec.specs.Reader.Expressions as reads;
-ghost use Rattle.parse_state.specs.Answers.{Falls, Gives, Stays};
 ghost use Rattle.parse_state.specs.Codes.{code_of};
 ghost use Rattle.parse_state.specs.Cursors.{stream_of};
 ghost use Rattle.parse_state.specs.States.{from_span, state_of};
@@ -13,6 +12,8 @@ ghost use Rattle.grammar_spec.specs.Tokens.Input.{brk2};
 ghost use Rattle.grammar_spec.specs.Tokens.Operators.{assignment_level};
 ghost use Rattle.base_token.specs.Kinds.{arrow_kind, async_kind};
 ghost use Rattle.parse_state.specs.Answers.{IsMemory};
+ghost use Rattle.parse_state.specs.Reads.{at_hand, Shorter, NotLonger};
+ghost use Rattle.parse_operands.specs.Rules.{ReadsBy};
 ghost use Rattle.parse_arrows.specs.Asyncs.{async_arrow, async_call, async_end};
 
 use crate::arrows::{arrow, ident_end, is_arrow};
@@ -37,8 +38,9 @@ pub fn call_or_arrow<'a, I: Tokens<'a> + Drop, N: Nested<'a, I>>(
     sym: Atom,
 ) -> Result<Operand, Failure>
     requires ready { N.ready nested.now }
-    ensures value { Gives (λ x. (tree_of x, state_of I.state p.new)) (spec.bound (stream_of I.machine) (state_of I.state p.new)) result (async_call (stream_of I.machine) (N.reads nested.now I.State I.machine) (code_of code) level (from_span place) sym (state_of I.state p.old)) }
-    ensures shorter { Falls result (spec.bound (stream_of I.machine) (state_of I.state p.new)) (spec.bound (stream_of I.machine) (state_of I.state p.old)) }
+    ensures value { ReadsBy I.machine I.state (N.reads nested.now) p.old p.new result
+        tree_of (λ m r. async_call m r (code_of code) level (from_span place) sym) }
+    ensures shorter { Shorter I.machine I.state p.old p.new result }
 {
     let breaks = p.breaks();
     p.bump()?;
@@ -59,7 +61,11 @@ fn is_param<'a, I: Tokens<'a> + Drop>(
     code: Around,
     level: u8,
 ) -> Result<bool, Failure>
-    ensures value { IfOk result (λ b. b ≡ (spec.is_name (stream_of I.machine) (code_of code) (state_of I.state p.now) && ((not (brk (spec.input (stream_of I.machine) (state_of I.state p.now))) && (kind2 (spec.input (stream_of I.machine) (state_of I.state p.now)) == arrow_kind) && not (brk2 (spec.input (stream_of I.machine) (state_of I.state p.now)))) && nat_le level assignment_level))) }
+    ensures value { IfOk result (λ b. b ≡ (spec.is_name (stream_of I.machine) (code_of code)
+        (state_of I.state p.now)
+        && ((not (brk (at_hand I.machine I.state p.now))
+        && (kind2 (at_hand I.machine I.state p.now) == arrow_kind)
+        && not (brk2 (at_hand I.machine I.state p.now))) && nat_le level assignment_level))) }
     ensures full { IfErr result IsMemory }
 {
     if !p.is_name(code) || p.breaks() {
@@ -79,8 +85,9 @@ pub fn async_arrow<'a, I: Tokens<'a> + Drop, N: Nested<'a, I>>(
     place: Span,
 ) -> Result<Operand, Failure>
     requires ready { N.ready nested.now }
-    ensures value { Gives (λ x. (tree_of x, state_of I.state p.new)) (spec.bound (stream_of I.machine) (state_of I.state p.new)) result (async_arrow (stream_of I.machine) (N.reads nested.now I.State I.machine) (code_of code) (from_span place) (state_of I.state p.old)) }
-    ensures shorter { Falls result (spec.bound (stream_of I.machine) (state_of I.state p.new)) (spec.bound (stream_of I.machine) (state_of I.state p.old)) }
+    ensures value { ReadsBy I.machine I.state (N.reads nested.now) p.old p.new result
+        tree_of (λ m r. async_arrow m r (code_of code) (from_span place)) }
+    ensures shorter { Shorter I.machine I.state p.old p.new result }
 {
     let span = p.place();
     let sym = p.name(code)?;
@@ -100,8 +107,9 @@ pub fn async_end<'a, I: Tokens<'a> + Drop, N: Nested<'a, I>>(
     sym: Atom,
 ) -> Result<Operand, Failure>
     requires ready { N.ready nested.now }
-    ensures value { Gives (λ x. (tree_of x, state_of I.state p.new)) (spec.bound (stream_of I.machine) (state_of I.state p.new)) result (async_end (stream_of I.machine) (N.reads nested.now I.State I.machine) (code_of code) level (from_span place) sym (state_of I.state p.old)) }
-    ensures not_longer { Stays result (spec.bound (stream_of I.machine) (state_of I.state p.new)) (spec.bound (stream_of I.machine) (state_of I.state p.old)) }
+    ensures value { ReadsBy I.machine I.state (N.reads nested.now) p.old p.new result
+        tree_of (λ m r. async_end m r (code_of code) level (from_span place) sym) }
+    ensures not_longer { NotLonger I.machine I.state p.old p.new result }
 {
     if p.at(kinds::FUNCTION) && !p.breaks() && !p.is_barred(code.context) {
         return function_operand(p, nested, code, place.lo, true);
@@ -125,9 +133,10 @@ pub fn async_expr<'a, I: Tokens<'a> + Drop, N: Nested<'a, I>>(
     level: u8,
 ) -> Result<Operand, Failure>
     requires ready { N.ready nested.now }
-    requires word { kind (spec.input (stream_of I.machine) (state_of I.state p.old)) ≡ async_kind }
-    ensures value { Gives (λ x. (tree_of x, state_of I.state p.new)) (spec.bound (stream_of I.machine) (state_of I.state p.new)) result (reads.async_by (stream_of I.machine) (N.reads nested.now I.State I.machine) (code_of code) level (state_of I.state p.old)) }
-    ensures shorter { Falls result (spec.bound (stream_of I.machine) (state_of I.state p.new)) (spec.bound (stream_of I.machine) (state_of I.state p.old)) }
+    requires word { kind (at_hand I.machine I.state p.old) ≡ async_kind }
+    ensures value { ReadsBy I.machine I.state (N.reads nested.now) p.old p.new result
+        tree_of (λ m r. reads.async_by m r (code_of code) level) }
+    ensures shorter { Shorter I.machine I.state p.old p.new result }
 {
     let place = p.place();
     let sym = Atom::new(p.alloc, p.text())?;

@@ -2,18 +2,18 @@
 ghost use Rattle.std.specs.Prelude.{◌≡◌, ◌≢◌, false, true, All, IfOk, map};
 ghost use Rattle.grammar_spec.specs.Tokens.Input.{kind, lo, span};
 ghost use Rattle.tree_nodes.specs.Placed.{holds_expr, inner};
-ghost use Rattle.grammar_spec.specs.Reader.Source as spec;
 ghost use Rattle.grammar_spec.specs.Reader.Expressions as reads;
-ghost use Rattle.parse_state.specs.Answers.{Falls, Gives, Stays};
+ghost use Rattle.parse_state.specs.Answers.{Gives};
 ghost use Rattle.parse_state.specs.Codes.{code_of};
-ghost use Rattle.parse_state.specs.Cursors.{stream_of};
-ghost use Rattle.parse_state.specs.States.{from, state_of};
+ghost use Rattle.parse_state.specs.States.{from};
 ghost use Rattle.parse_operands.specs.Lists.{arguments_of, FitArguments};
 ghost use Rattle.parse_operands.specs.Operands.{tree_of};
 ghost use Rattle.std.specs.Prelude.{[], ◌∷◌, ◌++◌, IfErr};
 ghost use Rattle.tree_nodes.specs.Fits.{fits_expr_or_spread};
 ghost use Rattle.tree_nodes.specs.View.{view_expr_or_spread};
 ghost use Rattle.parse_state.specs.Answers.{IsMemory, IsSyntax};
+ghost use Rattle.parse_state.specs.Reads.{Shorter, NotLonger};
+ghost use Rattle.parse_operands.specs.Rules.{ReadsBy};
 ghost use Rattle.parse_arrows.specs.Groups.{group_rest, group_tree, plain_list};
 
 use crate::arrows::{arrow, is_arrow};
@@ -41,7 +41,8 @@ fn refused(span: Span) -> Failure
 #[tactic(auto, using(crate::proofs::Plain::plain_starts), unfolding(crate::specs::Groups::plain_from))]
 fn plain(alloc: Global, items: Vec<ExprOrSpread>) -> Result<Vec<ExprBox>, Failure>
     requires { All (λ x. fits_expr_or_spread (λ p. p) x) items.items }
-    ensures value { Gives (λ x. map (λ e. inner e.part.value) x.items) 0 result (plain_list (map (view_expr_or_spread inner) items.items)) }
+    ensures value { Gives (λ x. map (λ e. inner e.part.value) x.items) 0 result
+        (plain_list (map (view_expr_or_spread inner) items.items)) }
     ensures holds { IfOk result (λ x. All (λ e. holds_expr e.part.value) x.items) }
 {
     let mut exprs = Vec::new(alloc);
@@ -58,7 +59,9 @@ fn plain(alloc: Global, items: Vec<ExprOrSpread>) -> Result<Vec<ExprBox>, Failur
 fn joined(alloc: Global, span: Span, exprs: Vec<ExprBox>, last: ExprBox) -> Result<ExprBox, Failure>
     requires fits { All (λ x. holds_expr x.part.value) exprs.items }
     requires last { holds_expr last.part.value }
-    ensures value { IfOk result (λ x. inner x.part.value ≡ reads.joined (map (λ e. inner e.part.value) exprs.items ++ inner last.part.value ∷ []) span) }
+    ensures value { IfOk result (λ x. inner x.part.value
+        ≡ reads.joined (map (λ e. inner e.part.value) exprs.items ++ inner last.part.value ∷ [])
+        span) }
     ensures holds { IfOk result (λ x. holds_expr x.part.value) }
     ensures full { IfErr result IsMemory }
 {
@@ -75,7 +78,8 @@ fn joined(alloc: Global, span: Span, exprs: Vec<ExprBox>, last: ExprBox) -> Resu
 #[tactic(auto, using(crate::proofs::Plain::groups))]
 fn group_expr(alloc: Global, paren: Span, items: Vec<ExprOrSpread>) -> Result<ExprBox, Failure>
     requires { All (λ x. fits_expr_or_spread (λ p. p) x) items.items }
-    ensures value { Gives (λ x. inner x.part.value) 0 result (group_tree paren.lo.0 (map (view_expr_or_spread inner) items.items)) }
+    ensures value { Gives (λ x. inner x.part.value) 0 result
+        (group_tree paren.lo.0 (map (view_expr_or_spread inner) items.items)) }
     ensures holds { IfOk result (λ x. holds_expr x.part.value) }
 {
     let mut before = items;
@@ -107,8 +111,10 @@ pub fn group_end<'a, I: Tokens<'a> + Drop, N: Nested<'a, I>>(
 ) -> Result<Operand, Failure>
     requires ready { N.ready nested.now }
     requires fits { FitArguments list }
-    ensures value { Gives (λ x. (tree_of x, state_of I.state p.new)) (spec.bound (stream_of I.machine) (state_of I.state p.new)) result (group_rest (stream_of I.machine) (N.reads nested.now I.State I.machine) (code_of code) level (from start.0) paren.lo.0 (arguments_of list) (state_of I.state p.old)) }
-    ensures not_longer { Stays result (spec.bound (stream_of I.machine) (state_of I.state p.new)) (spec.bound (stream_of I.machine) (state_of I.state p.old)) }
+    ensures value { ReadsBy I.machine I.state (N.reads nested.now) p.old p.new result
+        tree_of
+        (λ m r. group_rest m r (code_of code) level (from start.0) paren.lo.0 (arguments_of list)) }
+    ensures not_longer { NotLonger I.machine I.state p.old p.new result }
 {
     if is_arrow(p, nested, level) && nested.are_params(p, &list) {
         let params = nested.params(p, list)?;
@@ -131,8 +137,9 @@ pub fn group<'a, I: Tokens<'a> + Drop, N: Nested<'a, I>>(
     level: u8,
 ) -> Result<Operand, Failure>
     requires ready { N.ready nested.now }
-    ensures value { Gives (λ x. (tree_of x, state_of I.state p.new)) (spec.bound (stream_of I.machine) (state_of I.state p.new)) result (reads.group_by (stream_of I.machine) (N.reads nested.now I.State I.machine) (code_of code) level (state_of I.state p.old)) }
-    ensures shorter { Falls result (spec.bound (stream_of I.machine) (state_of I.state p.new)) (spec.bound (stream_of I.machine) (state_of I.state p.old)) }
+    ensures value { ReadsBy I.machine I.state (N.reads nested.now) p.old p.new result
+        tree_of (λ m r. reads.group_by m r (code_of code) level) }
+    ensures shorter { Shorter I.machine I.state p.old p.new result }
 {
     let start = p.lo();
     p.bump()?;

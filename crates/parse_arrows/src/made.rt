@@ -30,7 +30,9 @@ pub fn block_arrow(
 ) -> Result<Operand, Failure>
     requires params { All (λ x. holds_pat x.part.value) params.items }
     requires body { fits_block_stmt (λ p. p) body }
-    ensures value { IfOk result (λ o. tree_of o ≡ arrow_expr span (trees_by (λ x. inner x.part.value) params.items) (view_block_stmt inner body) is_async) }
+    ensures value { IfOk result (λ o. tree_of o
+        ≡ arrow_expr span (trees_by (λ x. inner x.part.value) params.items)
+        (view_block_stmt inner body) is_async) }
     ensures full { IfErr result IsMemory }
 {
     let node = ArrowExpr {
@@ -46,6 +48,7 @@ pub fn block_arrow(
 fn is_block(operand: &Operand) -> bool
     ensures { result ≡ shape.is_block (tree_of operand.now) }
 {
+    // For the proof: the match shows the kind, and by it no expression is a block.
     match &operand.expr.get().kind {
         ExprKind::Seq(_) => false,
         _ => false,
@@ -62,7 +65,9 @@ pub fn plain_arrow(
     is_async: bool,
 ) -> Result<Operand, Failure>
     requires params { All (λ x. holds_pat x.part.value) params.items }
-    ensures value { IfOk result (λ o. tree_of o ≡ arrow_expr span (trees_by (λ x. inner x.part.value) params.items) (tree_of body) is_async) }
+    ensures value { IfOk result (λ o. tree_of o
+        ≡ arrow_expr span (trees_by (λ x. inner x.part.value) params.items) (tree_of body)
+        is_async) }
     ensures full { IfErr result IsMemory }
 {
     let end = if is_block(&body) {
@@ -82,7 +87,8 @@ pub fn plain_arrow(
 /// The parameters of an arrow that has one name for them.
 #[inline(never)]
 pub fn one_param(alloc: Global, span: Span, sym: Atom) -> Result<Vec<PatBox>, Failure>
-    ensures value { IfOk result (λ x. map (λ y. inner y.part.value) x.items ≡ binding_ident span (ident span sym) ∷ []) }
+    ensures value { IfOk result (λ x. map (λ y. inner y.part.value) x.items
+        ≡ binding_ident span (ident span sym) ∷ []) }
     ensures fits { IfOk result (λ x. All (λ y. holds_pat y.part.value) x.items) }
     ensures full { IfErr result IsMemory }
 {

@@ -4,13 +4,12 @@ ghost use Rattle.grammar_spec.specs.Tokens.Shape as shape;
 ghost use Rattle.tree_nodes.specs.Fits.{fits_block_stmt};
 ghost use Rattle.tree_nodes.specs.Placed.{holds_stmt, inner};
 ghost use Rattle.tree_nodes.specs.View.{view_block_stmt};
-ghost use Rattle.grammar_spec.specs.Reader.Source as spec;
 ghost use Rattle.grammar_spec.specs.Reader.Source.{go_on};
 ghost use Rattle.grammar_spec.specs.Reader.Statements as reads;
-ghost use Rattle.parse_state.specs.Answers.{Falls, Gives, going_on};
+ghost use Rattle.parse_state.specs.Answers.{going_on};
 ghost use Rattle.parse_state.specs.Codes.{code_of};
-ghost use Rattle.parse_state.specs.Cursors.{stream_of};
-ghost use Rattle.parse_state.specs.States.{state_of};
+ghost use Rattle.parse_state.specs.Reads.{Shorter};
+ghost use Rattle.parse_operands.specs.Rules.{ReadsBy};
 ghost use Rattle.parse_blocks.specs.Lists.{body_items, body_of, FitBody};
 
 use crate::codes::turned;
@@ -64,9 +63,10 @@ pub fn item<'a, I: Tokens<'a> + Drop, N: Nested<'a, I>>(
 ) -> Result<(), Failure>
     requires ready { N.ready nested.now }
     requires fits { FitBody body.old }
-    ensures value { Gives (λ _. (go_on (body_of body.new), state_of I.state p.new)) (spec.bound (stream_of I.machine) (state_of I.state p.new)) result (reads.body_item (stream_of I.machine) (N.reads nested.now I.State I.machine) (body_of body.old) (state_of I.state p.old)) }
+    ensures value { ReadsBy I.machine I.state (N.reads nested.now) p.old p.new result
+        (λ _. go_on (body_of body.new)) (λ m r. reads.body_item m r (body_of body.old)) }
     ensures fits { IfOk result (λ _. FitBody body.new) }
-    ensures shorter { Falls result (spec.bound (stream_of I.machine) (state_of I.state p.new)) (spec.bound (stream_of I.machine) (state_of I.state p.old)) }
+    ensures shorter { Shorter I.machine I.state p.old p.new result }
 {
     let read = nested.stmt(p, in_list(body.code))?;
     if body.starts && is_use_strict(read.get()) {
@@ -89,9 +89,10 @@ pub fn body_turn<'a, I: Tokens<'a> + Drop, N: Nested<'a, I>>(
 ) -> Result<bool, Failure>
     requires ready { N.ready nested.now }
     requires fits { FitBody body.old }
-    ensures value { Gives (λ x. (going_on x (body_of body.new), state_of I.state p.new)) (spec.bound (stream_of I.machine) (state_of I.state p.new)) result (reads.body_step (stream_of I.machine) (N.reads nested.now I.State I.machine) (body_of body.old) (state_of I.state p.old)) }
+    ensures value { ReadsBy I.machine I.state (N.reads nested.now) p.old p.new result
+        (λ x. going_on x (body_of body.new)) (λ m r. reads.body_step m r (body_of body.old)) }
     ensures fits { IfOk result (λ _. FitBody body.new) }
-    ensures shorter { Falls result (spec.bound (stream_of I.machine) (state_of I.state p.new)) (spec.bound (stream_of I.machine) (state_of I.state p.old)) }
+    ensures shorter { Shorter I.machine I.state p.old p.new result }
 {
     if p.eat(kinds::RIGHT_BRACE)? {
         return Ok(false);
@@ -109,9 +110,10 @@ pub fn body_items<'a, I: Tokens<'a> + Drop, N: Nested<'a, I>>(
     code: Around,
 ) -> Result<BodySoFar, Failure>
     requires ready { N.ready nested.now }
-    ensures value { Gives (λ x. (body_of x, state_of I.state p.new)) (spec.bound (stream_of I.machine) (state_of I.state p.new)) result (body_items (stream_of I.machine) (N.reads nested.now I.State I.machine) (code_of code) (state_of I.state p.old)) }
+    ensures value { ReadsBy I.machine I.state (N.reads nested.now) p.old p.new result
+        body_of (λ m r. body_items m r (code_of code)) }
     ensures fits { IfOk result (λ x. FitBody x) }
-    ensures shorter { Falls result (spec.bound (stream_of I.machine) (state_of I.state p.new)) (spec.bound (stream_of I.machine) (state_of I.state p.old)) }
+    ensures shorter { Shorter I.machine I.state p.old p.new result }
 {
     let mut read = BodySoFar {
         items: Vec::new(p.alloc),
@@ -131,9 +133,10 @@ pub fn body<'a, I: Tokens<'a> + Drop, N: Nested<'a, I>>(
     code: Around,
 ) -> Result<BlockStmt, Failure>
     requires ready { N.ready nested.now }
-    ensures value { Gives (λ x. (view_block_stmt inner x, state_of I.state p.new)) (spec.bound (stream_of I.machine) (state_of I.state p.new)) result (reads.body_by (stream_of I.machine) (N.reads nested.now I.State I.machine) (code_of code) (state_of I.state p.old)) }
+    ensures value { ReadsBy I.machine I.state (N.reads nested.now) p.old p.new result
+        (view_block_stmt inner) (λ m r. reads.body_by m r (code_of code)) }
     ensures fits { IfOk result (λ x. fits_block_stmt (λ p. p) x) }
-    ensures shorter { Falls result (spec.bound (stream_of I.machine) (state_of I.state p.new)) (spec.bound (stream_of I.machine) (state_of I.state p.old)) }
+    ensures shorter { Shorter I.machine I.state p.old p.new result }
 {
     let start = p.lo();
     p.expect(kinds::LEFT_BRACE)?;

@@ -5,6 +5,7 @@ ghost use Rattle.grammar_spec.specs.Reader.Source as spec;
 ghost use Rattle.parse_state.specs.Codes.{code_of};
 ghost use Rattle.parse_state.specs.Cursors.{stream_of};
 ghost use Rattle.parse_state.specs.States.{state_of};
+ghost use Rattle.parse_state.specs.Reads.{to_come};
 
 use base_token::Context;
 use parse_state::{Around, Parser, Tokens};
@@ -13,7 +14,7 @@ use parse_state::{Around, Parser, Tokens};
 #[tactic(auto, unfolding(parse_state::specs::Cursors::stream_of))]
 pub fn turned<'a, I: Tokens<'a> + Drop>(p: &mut Parser<'a, I>, context: Context)
     ensures value { state_of I.state p.new ≡ spec.retold (stream_of I.machine) context (state_of I.state p.old) }
-    ensures same { spec.bound (stream_of I.machine) (state_of I.state p.new) ≡ spec.bound (stream_of I.machine) (state_of I.state p.old) }
+    ensures same { to_come I.machine I.state p.new ≡ to_come I.machine I.state p.old }
 {
     p.input.set_ctx(context);
 }

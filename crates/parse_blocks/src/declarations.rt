@@ -5,13 +5,13 @@ ghost use Rattle.grammar_spec.specs.Tokens.Shape as shape;
 ghost use Rattle.tree_nodes.specs.Fits.{fits_var_declarator};
 ghost use Rattle.tree_nodes.specs.Placed.{holds_stmt, inner};
 ghost use Rattle.tree_nodes.specs.View.{var_decl_kind_word, view_var_declarator};
-ghost use Rattle.grammar_spec.specs.Reader.Source as spec;
 ghost use Rattle.grammar_spec.specs.Reader.Statements as reads;
-ghost use Rattle.parse_state.specs.Answers.{Falls, Gives, going_on};
+ghost use Rattle.parse_state.specs.Answers.{going_on};
 ghost use Rattle.parse_state.specs.Codes.{code_of};
-ghost use Rattle.parse_state.specs.Cursors.{stream_of};
-ghost use Rattle.parse_state.specs.States.{from, state_of};
-ghost use Rattle.parse_operands.specs.Operands.{tree_of};
+ghost use Rattle.parse_state.specs.States.{from};
+ghost use Rattle.parse_state.specs.Reads.{at_hand, Shorter};
+ghost use Rattle.parse_operands.specs.Operands.{tree_of, tree_in};
+ghost use Rattle.parse_operands.specs.Rules.{ReadsBy};
 ghost use Rattle.parse_blocks.specs.Declarators.{declarators_of, FitDeclarators, TellsEnd};
 
 use crate::made;
@@ -32,6 +32,7 @@ pub struct DeclaratorList {
 fn is_absent(operand: &Operand) -> bool
     ensures { result ≡ shape.is_absent (tree_of operand.now) }
 {
+    // For the proof: the match shows the kind, and by it no expression is left out.
     match &operand.expr.get().kind {
         ExprKind::Seq(_) => false,
         _ => false,
@@ -47,10 +48,11 @@ pub fn declarator<'a, I: Tokens<'a> + Drop, N: Nested<'a, I>>(
     code: Around,
 ) -> Result<(VarDeclarator, u8), Failure>
     requires ready { N.ready nested.now }
-    ensures value { Gives (λ x. (view_var_declarator inner x.0, state_of I.state p.new)) (spec.bound (stream_of I.machine) (state_of I.state p.new)) result (reads.declarator_by (stream_of I.machine) (N.reads nested.now I.State I.machine) (code_of code) (state_of I.state p.old)) }
+    ensures value { ReadsBy I.machine I.state (N.reads nested.now) p.old p.new result
+        (λ x. view_var_declarator inner x.0) (λ m r. reads.declarator_by m r (code_of code)) }
     ensures fits { IfOk result (λ x. fits_var_declarator (λ p. p) x.0) }
     ensures end { IfOk result (λ x. x.1 ≡ shape.declarator_end (view_var_declarator inner x.0)) }
-    ensures shorter { Falls result (spec.bound (stream_of I.machine) (state_of I.state p.new)) (spec.bound (stream_of I.machine) (state_of I.state p.old)) }
+    ensures shorter { Shorter I.machine I.state p.old p.new result }
 {
     let start = p.lo();
     let name = nested.pat(p, code)?;
@@ -93,10 +95,12 @@ pub fn declarator_turn<'a, I: Tokens<'a> + Drop, N: Nested<'a, I>>(
 ) -> Result<bool, Failure>
     requires ready { N.ready nested.now }
     requires fits { FitDeclarators list.old }
-    ensures value { Gives (λ x. (going_on x (declarators_of list.new), state_of I.state p.new)) (spec.bound (stream_of I.machine) (state_of I.state p.new)) result (reads.declarator_step (stream_of I.machine) (N.reads nested.now I.State I.machine) (code_of code) (declarators_of list.old) (state_of I.state p.old)) }
+    ensures value { ReadsBy I.machine I.state (N.reads nested.now) p.old p.new result
+        (λ x. going_on x (declarators_of list.new))
+        (λ m r. reads.declarator_step m r (code_of code) (declarators_of list.old)) }
     ensures fits { IfOk result (λ x. FitDeclarators list.new) }
     ensures end { IfOk result (λ _. TellsEnd list.new) }
-    ensures shorter { Falls result (spec.bound (stream_of I.machine) (state_of I.state p.new)) (spec.bound (stream_of I.machine) (state_of I.state p.old)) }
+    ensures shorter { Shorter I.machine I.state p.old p.new result }
 {
     let (item, end) = declarator(p, nested, code)?;
     list.items.push(item)?;
@@ -113,10 +117,11 @@ pub fn declarators<'a, I: Tokens<'a> + Drop, N: Nested<'a, I>>(
     code: Around,
 ) -> Result<DeclaratorList, Failure>
     requires ready { N.ready nested.now }
-    ensures value { Gives (λ x. (declarators_of x, state_of I.state p.new)) (spec.bound (stream_of I.machine) (state_of I.state p.new)) result (reads.declarators_by (stream_of I.machine) (N.reads nested.now I.State I.machine) (code_of code) (state_of I.state p.old)) }
+    ensures value { ReadsBy I.machine I.state (N.reads nested.now) p.old p.new result
+        declarators_of (λ m r. reads.declarators_by m r (code_of code)) }
     ensures fits { IfOk result (λ x. FitDeclarators x) }
     ensures end { IfOk result (λ x. TellsEnd x) }
-    ensures shorter { Falls result (spec.bound (stream_of I.machine) (state_of I.state p.new)) (spec.bound (stream_of I.machine) (state_of I.state p.old)) }
+    ensures shorter { Shorter I.machine I.state p.old p.new result }
 {
     let mut list = DeclaratorList {
         items: Vec::new(p.alloc),
@@ -136,11 +141,12 @@ pub fn variables<'a, I: Tokens<'a> + Drop, N: Nested<'a, I>>(
     word: VarDeclKind,
 ) -> Result<StmtBox, Failure>
     requires ready { N.ready nested.now }
-    requires kind { var_decl_kind_word word ≡ kind (spec.input (stream_of I.machine) (state_of I.state p.old)) }
-    requires some { kind (spec.input (stream_of I.machine) (state_of I.state p.old)) ≢ 0 }
-    ensures value { Gives (λ x. (inner x.part.value, state_of I.state p.new)) (spec.bound (stream_of I.machine) (state_of I.state p.new)) result (reads.variables_by (stream_of I.machine) (N.reads nested.now I.State I.machine) (code_of code) (state_of I.state p.old)) }
+    requires kind { var_decl_kind_word word ≡ kind (at_hand I.machine I.state p.old) }
+    requires some { kind (at_hand I.machine I.state p.old) ≢ 0 }
+    ensures value { ReadsBy I.machine I.state (N.reads nested.now) p.old p.new result
+        tree_in (λ m r. reads.variables_by m r (code_of code)) }
     ensures holds { IfOk result (λ x. holds_stmt x.part.value) }
-    ensures shorter { Falls result (spec.bound (stream_of I.machine) (state_of I.state p.new)) (spec.bound (stream_of I.machine) (state_of I.state p.old)) }
+    ensures shorter { Shorter I.machine I.state p.old p.new result }
 {
     let start = p.lo();
     p.eat_word(code, p.kind())?;
@@ -160,9 +166,10 @@ pub fn using<'a, I: Tokens<'a> + Drop, N: Nested<'a, I>>(
     awaits: bool,
 ) -> Result<StmtBox, Failure>
     requires ready { N.ready nested.now }
-    ensures value { Gives (λ x. (inner x.part.value, state_of I.state p.new)) (spec.bound (stream_of I.machine) (state_of I.state p.new)) result (reads.using_by (stream_of I.machine) (N.reads nested.now I.State I.machine) (code_of code) (from start.0) awaits (state_of I.state p.old)) }
+    ensures value { ReadsBy I.machine I.state (N.reads nested.now) p.old p.new result
+        tree_in (λ m r. reads.using_by m r (code_of code) (from start.0) awaits) }
     ensures holds { IfOk result (λ x. holds_stmt x.part.value) }
-    ensures shorter { Falls result (spec.bound (stream_of I.machine) (state_of I.state p.new)) (spec.bound (stream_of I.machine) (state_of I.state p.old)) }
+    ensures shorter { Shorter I.machine I.state p.old p.new result }
 {
     p.eat_word(code, kinds::USING)?;
     let list = declarators(p, nested, code)?;

@@ -114,7 +114,8 @@ pub fn labeled_stmt(
     body: StmtBox,
 ) -> Result<StmtBox, Failure>
     requires body { holds_stmt body.part.value }
-    ensures value { IfOk result (λ x. inner x.part.value ≡ labeled_stmt span (view_ident label) (inner body.part.value)) }
+    ensures value { IfOk result (λ x. inner x.part.value
+        ≡ labeled_stmt span (view_ident label) (inner body.part.value)) }
     ensures holds { IfOk result (λ x. holds_stmt x.part.value) }
     ensures full { IfErr result IsMemory }
 {
@@ -148,7 +149,9 @@ pub fn if_stmt(
 ) -> Result<StmtBox, Failure>
     requires cons { holds_stmt cons.part.value }
     requires alt { fits_held (λ x. holds_stmt x.part.value) alt }
-    ensures value { IfOk result (λ x. inner x.part.value ≡ if_stmt span (tree_of test) (inner cons.part.value) (part_by (λ x. inner x.part.value) alt)) }
+    ensures value { IfOk result (λ x. inner x.part.value
+        ≡ if_stmt span (tree_of test) (inner cons.part.value)
+        (part_by (λ x. inner x.part.value) alt)) }
     ensures holds { IfOk result (λ x. holds_stmt x.part.value) }
     ensures full { IfErr result IsMemory }
 {
@@ -172,7 +175,8 @@ pub fn switch_stmt(
     cases: Vec<SwitchCase>,
 ) -> Result<StmtBox, Failure>
     requires { All (λ x. fits_switch_case (λ p. p) x) cases.items }
-    ensures value { IfOk result (λ x. inner x.part.value ≡ switch_stmt span (tree_of discriminant) (trees_by (view_switch_case inner) cases.items)) }
+    ensures value { IfOk result (λ x. inner x.part.value
+        ≡ switch_stmt span (tree_of discriminant) (trees_by (view_switch_case inner) cases.items)) }
     ensures holds { IfOk result (λ x. holds_stmt x.part.value) }
     ensures full { IfErr result IsMemory }
 {
@@ -198,7 +202,9 @@ pub fn try_stmt(
     requires block { fits_block_stmt (λ p. p) block }
     requires handler { fits_held (λ x. fits_catch_clause (λ p. p) x) handler }
     requires finalizer { fits_held (λ x. fits_block_stmt (λ p. p) x) finalizer }
-    ensures value { IfOk result (λ x. inner x.part.value ≡ try_stmt span (view_block_stmt inner block) (part_by (view_catch_clause inner) handler) (part_by (view_block_stmt inner) finalizer)) }
+    ensures value { IfOk result (λ x. inner x.part.value
+        ≡ try_stmt span (view_block_stmt inner block) (part_by (view_catch_clause inner) handler)
+        (part_by (view_block_stmt inner) finalizer)) }
     ensures holds { IfOk result (λ x. holds_stmt x.part.value) }
     ensures full { IfErr result IsMemory }
 {
@@ -220,7 +226,9 @@ pub fn var_decl(
     decls: Vec<VarDeclarator>,
 ) -> Result<StmtBox, Failure>
     requires { All (λ x. fits_var_declarator (λ p. p) x) decls.items }
-    ensures value { IfOk result (λ x. inner x.part.value ≡ var_decl span (var_decl_kind_word kind) (trees_by (view_var_declarator inner) decls.items)) }
+    ensures value { IfOk result (λ x. inner x.part.value
+        ≡ var_decl span (var_decl_kind_word kind)
+        (trees_by (view_var_declarator inner) decls.items)) }
     ensures holds { IfOk result (λ x. holds_stmt x.part.value) }
     ensures full { IfErr result IsMemory }
 {
@@ -239,7 +247,8 @@ pub fn using_decl(
     decls: Vec<VarDeclarator>,
 ) -> Result<StmtBox, Failure>
     requires { All (λ x. fits_var_declarator (λ p. p) x) decls.items }
-    ensures value { IfOk result (λ x. inner x.part.value ≡ using_decl span is_await (trees_by (view_var_declarator inner) decls.items)) }
+    ensures value { IfOk result (λ x. inner x.part.value
+        ≡ using_decl span is_await (trees_by (view_var_declarator inner) decls.items)) }
     ensures holds { IfOk result (λ x. holds_stmt x.part.value) }
     ensures full { IfErr result IsMemory }
 {

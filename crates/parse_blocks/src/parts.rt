@@ -1,14 +1,13 @@
 //! Parts of statements: a test in its parentheses, and a statement as a part of another.
 ghost use Rattle.std.specs.Prelude.{◌≡◌, ◌||◌, ◌&&◌, true, false, IfOk};
 ghost use Rattle.grammar_spec.specs.Tokens.Shape as shape;
-ghost use Rattle.tree_nodes.specs.Placed.{holds_stmt, inner};
-ghost use Rattle.grammar_spec.specs.Reader.Source as spec;
+ghost use Rattle.tree_nodes.specs.Placed.{holds_stmt};
 ghost use Rattle.grammar_spec.specs.Reader.Statements as reads;
-ghost use Rattle.parse_state.specs.Answers.{Falls, Gives, IsSyntax};
+ghost use Rattle.parse_state.specs.Answers.{IsSyntax};
 ghost use Rattle.parse_state.specs.Codes.{code_of};
-ghost use Rattle.parse_state.specs.Cursors.{stream_of};
-ghost use Rattle.parse_state.specs.States.{state_of};
-ghost use Rattle.parse_operands.specs.Operands.{tree_of};
+ghost use Rattle.parse_state.specs.Reads.{Shorter};
+ghost use Rattle.parse_operands.specs.Operands.{tree_of, tree_in};
+ghost use Rattle.parse_operands.specs.Rules.{ReadsBy};
 
 use base_token::{Error, Span, Spanned, SyntaxError};
 use parse_operands::{Nested, Operand};
@@ -47,8 +46,9 @@ pub fn in_parens<'a, I: Tokens<'a> + Drop, N: Nested<'a, I>>(
     code: Around,
 ) -> Result<Operand, Failure>
     requires ready { N.ready nested.now }
-    ensures value { Gives (λ x. (tree_of x, state_of I.state p.new)) (spec.bound (stream_of I.machine) (state_of I.state p.new)) result (reads.in_parens (stream_of I.machine) (N.reads nested.now I.State I.machine) (code_of code) (state_of I.state p.old)) }
-    ensures shorter { Falls result (spec.bound (stream_of I.machine) (state_of I.state p.new)) (spec.bound (stream_of I.machine) (state_of I.state p.old)) }
+    ensures value { ReadsBy I.machine I.state (N.reads nested.now) p.old p.new result
+        tree_of (λ m r. reads.in_parens m r (code_of code)) }
+    ensures shorter { Shorter I.machine I.state p.old p.new result }
 {
     p.expect(kinds::LEFT_PAREN)?;
     let test = nested.expr(p, code, EXPRESSION)?;
@@ -76,9 +76,10 @@ pub fn sub<'a, I: Tokens<'a> + Drop, N: Nested<'a, I>>(
     functions: bool,
 ) -> Result<StmtBox, Failure>
     requires ready { N.ready nested.now }
-    ensures value { Gives (λ x. (inner x.part.value, state_of I.state p.new)) (spec.bound (stream_of I.machine) (state_of I.state p.new)) result (reads.sub_by (stream_of I.machine) (N.reads nested.now I.State I.machine) (code_of code) functions (state_of I.state p.old)) }
+    ensures value { ReadsBy I.machine I.state (N.reads nested.now) p.old p.new result
+        tree_in (λ m r. reads.sub_by m r (code_of code) functions) }
     ensures holds { IfOk result (λ x. holds_stmt x.part.value) }
-    ensures shorter { Falls result (spec.bound (stream_of I.machine) (state_of I.state p.new)) (spec.bound (stream_of I.machine) (state_of I.state p.old)) }
+    ensures shorter { Shorter I.machine I.state p.old p.new result }
 {
     let read = nested.stmt(p, alone(code))?;
     if is_statement(read.get())

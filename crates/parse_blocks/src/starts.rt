@@ -7,6 +7,7 @@ ghost use Rattle.parse_state.specs.Answers.{IsMemory};
 ghost use Rattle.parse_state.specs.Codes.{code_of};
 ghost use Rattle.parse_state.specs.Cursors.{stream_of};
 ghost use Rattle.parse_state.specs.States.{state_of};
+ghost use Rattle.parse_state.specs.Reads.{at_hand};
 
 use parse_operands::Nested;
 use parse_state::kind_numbers::token_number;
@@ -20,8 +21,10 @@ use parse_state::{Around, Failure, Look, Parser, Tokens, kinds};
 /// Want of memory.
 #[tactic(auto, unfolding(parse_state::specs::Cursors::stream_of))]
 pub fn behind<'a, I: Tokens<'a> + Drop>(p: &Parser<'a, I>) -> Result<(u8, bool), Failure>
-    ensures kind { IfOk result (λ x. x.0 ≡ kind (spec.input (stream_of I.machine) (spec.past (stream_of I.machine) (state_of I.state p.now)))) }
-    ensures breaks { IfOk result (λ x. x.1 ≡ brk2 (spec.input (stream_of I.machine) (state_of I.state p.now))) }
+    ensures kind { IfOk result (λ x. x.0 ≡ kind
+        (spec.input (stream_of I.machine)
+        (spec.past (stream_of I.machine) (state_of I.state p.now)))) }
+    ensures breaks { IfOk result (λ x. x.1 ≡ brk2 (at_hand I.machine I.state p.now)) }
     ensures full { IfErr result IsMemory }
 {
     if p.ahead.token.is_none() {
@@ -43,7 +46,8 @@ pub fn starts_async<'a, I: Tokens<'a> + Drop, N: Nested<'a, I>>(
     p: &Parser<'a, I>,
     _nested: &N,
 ) -> Result<bool, Failure>
-    ensures value { IfOk result (λ b. b ≡ reads.starts_async (stream_of I.machine) (N.reads _nested.now I.State I.machine) (state_of I.state p.now)) }
+    ensures value { IfOk result (λ b. b ≡ reads.starts_async (stream_of I.machine)
+        (N.reads _nested.now I.State I.machine) (state_of I.state p.now)) }
     ensures full { IfErr result IsMemory }
 {
     if !p.at(kinds::ASYNC) {
@@ -62,7 +66,8 @@ pub fn starts_let<'a, I: Tokens<'a> + Drop, N: Nested<'a, I>>(
     p: &Parser<'a, I>,
     _nested: &N,
 ) -> Result<bool, Failure>
-    ensures value { IfOk result (λ b. b ≡ reads.starts_let (stream_of I.machine) (N.reads _nested.now I.State I.machine) (state_of I.state p.now)) }
+    ensures value { IfOk result (λ b. b ≡ reads.starts_let (stream_of I.machine)
+        (N.reads _nested.now I.State I.machine) (state_of I.state p.now)) }
     ensures full { IfErr result IsMemory }
 {
     if !p.at(kinds::LET) {
@@ -82,7 +87,8 @@ pub fn starts_variables<'a, I: Tokens<'a> + Drop, N: Nested<'a, I>>(
     _nested: &N,
     code: Around,
 ) -> Result<bool, Failure>
-    ensures value { IfOk result (λ b. b ≡ reads.starts_variables (stream_of I.machine) (N.reads _nested.now I.State I.machine) (code_of code) (state_of I.state p.now)) }
+    ensures value { IfOk result (λ b. b ≡ reads.starts_variables (stream_of I.machine)
+        (N.reads _nested.now I.State I.machine) (code_of code) (state_of I.state p.now)) }
     ensures full { IfErr result IsMemory }
 {
     if p.at(kinds::VAR) {
@@ -107,7 +113,8 @@ pub fn starts_using<'a, I: Tokens<'a> + Drop, N: Nested<'a, I>>(
     _nested: &N,
     code: Around,
 ) -> Result<bool, Failure>
-    ensures value { IfOk result (λ b. b ≡ reads.starts_using (stream_of I.machine) (N.reads _nested.now I.State I.machine) (code_of code) (state_of I.state p.now)) }
+    ensures value { IfOk result (λ b. b ≡ reads.starts_using (stream_of I.machine)
+        (N.reads _nested.now I.State I.machine) (code_of code) (state_of I.state p.now)) }
     ensures full { IfErr result IsMemory }
 {
     if !code.syntax.explicit_resource_management || !p.at(kinds::USING) {
@@ -127,7 +134,8 @@ pub fn starts_await_using<'a, I: Tokens<'a> + Drop, N: Nested<'a, I>>(
     _nested: &N,
     code: Around,
 ) -> Result<bool, Failure>
-    ensures value { IfOk result (λ b. b ≡ reads.starts_await_using (stream_of I.machine) (N.reads _nested.now I.State I.machine) (code_of code) (state_of I.state p.now)) }
+    ensures value { IfOk result (λ b. b ≡ reads.starts_await_using (stream_of I.machine)
+        (N.reads _nested.now I.State I.machine) (code_of code) (state_of I.state p.now)) }
     ensures full { IfErr result IsMemory }
 {
     if !code.context.in_async || !p.at(kinds::AWAIT) || p.is_barred(code.context) {

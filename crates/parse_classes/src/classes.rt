@@ -4,14 +4,13 @@ ghost use Rattle.tree_spec.specs.Tree.{part_by};
 ghost use Rattle.tree_nodes.specs.Fits.{fits_class, fits_class_expr, fits_class_member, fits_held};
 ghost use Rattle.tree_nodes.specs.Placed.{holds_expr, holds_stmt, inner};
 ghost use Rattle.tree_nodes.specs.View.{view_class, view_class_expr, view_class_member};
-ghost use Rattle.grammar_spec.specs.Reader.Source as spec;
 ghost use Rattle.grammar_spec.specs.Reader.Expressions as expressions;
 ghost use Rattle.grammar_spec.specs.Reader.Statements as reads;
-ghost use Rattle.parse_state.specs.Answers.{Falls, Gives, going_on, IsMemory};
+ghost use Rattle.parse_state.specs.Answers.{going_on, IsMemory};
 ghost use Rattle.parse_state.specs.Codes.{code_of};
-ghost use Rattle.parse_state.specs.Cursors.{stream_of};
-ghost use Rattle.parse_state.specs.States.{state_of};
-ghost use Rattle.parse_operands.specs.Operands.{tree_of};
+ghost use Rattle.parse_state.specs.Reads.{Shorter};
+ghost use Rattle.parse_operands.specs.Operands.{tree_of, tree_in};
+ghost use Rattle.parse_operands.specs.Rules.{ReadsBy};
 ghost use Rattle.parse_classes.specs.Members.{member_list};
 
 use crate::heads::is_static;
@@ -35,9 +34,10 @@ pub fn static_member<'a, I: Tokens<'a> + Drop, N: Nested<'a, I>>(
     code: Around,
 ) -> Result<ClassMember, Failure>
     requires ready { N.ready nested.now }
-    ensures value { Gives (λ x. (view_class_member inner x, state_of I.state p.new)) (spec.bound (stream_of I.machine) (state_of I.state p.new)) result (reads.static_by (stream_of I.machine) (N.reads nested.now I.State I.machine) (code_of code) (state_of I.state p.old)) }
+    ensures value { ReadsBy I.machine I.state (N.reads nested.now) p.old p.new result
+        (view_class_member inner) (λ m r. reads.static_by m r (code_of code)) }
     ensures fits { IfOk result (λ x. fits_class_member (λ p. p) x) }
-    ensures shorter { Falls result (spec.bound (stream_of I.machine) (state_of I.state p.new)) (spec.bound (stream_of I.machine) (state_of I.state p.old)) }
+    ensures shorter { Shorter I.machine I.state p.old p.new result }
 {
     let start = p.lo();
     p.eat_word(code, kinds::STATIC)?;
@@ -55,7 +55,8 @@ pub fn static_member<'a, I: Tokens<'a> + Drop, N: Nested<'a, I>>(
 fn add(list: &mut Vec<ClassMember>, member: ClassMember) -> Result<(), Failure>
     requires fits { All (λ x. fits_class_member (λ p. p) x) list.old.items }
     requires member { fits_class_member (λ p. p) member }
-    ensures value { OnOk result (map (view_class_member inner) list.new.items ≡ map (view_class_member inner) list.old.items ++ view_class_member inner member ∷ []) }
+    ensures value { OnOk result (map (view_class_member inner) list.new.items
+        ≡ map (view_class_member inner) list.old.items ++ view_class_member inner member ∷ []) }
     ensures fits { IfOk result (λ _. All (λ x. fits_class_member (λ p. p) x) list.new.items) }
     ensures full { IfErr result IsMemory }
 {
@@ -74,9 +75,11 @@ pub fn member_turn<'a, I: Tokens<'a> + Drop, N: Nested<'a, I>>(
 ) -> Result<bool, Failure>
     requires ready { N.ready nested.now }
     requires fits { All (λ x. fits_class_member (λ p. p) x) list.old.items }
-    ensures value { Gives (λ x. (going_on x (map (view_class_member inner) list.new.items), state_of I.state p.new)) (spec.bound (stream_of I.machine) (state_of I.state p.new)) result (reads.member_step (stream_of I.machine) (N.reads nested.now I.State I.machine) (code_of code) (map (view_class_member inner) list.old.items) (state_of I.state p.old)) }
+    ensures value { ReadsBy I.machine I.state (N.reads nested.now) p.old p.new result
+        (λ x. going_on x (map (view_class_member inner) list.new.items))
+        (λ m r. reads.member_step m r (code_of code) (map (view_class_member inner) list.old.items)) }
     ensures fits { IfOk result (λ _. All (λ x. fits_class_member (λ p. p) x) list.new.items) }
-    ensures shorter { Falls result (spec.bound (stream_of I.machine) (state_of I.state p.new)) (spec.bound (stream_of I.machine) (state_of I.state p.old)) }
+    ensures shorter { Shorter I.machine I.state p.old p.new result }
 {
     if p.eat(kinds::RIGHT_BRACE)? {
         return Ok(false);
@@ -105,9 +108,10 @@ pub fn member_list<'a, I: Tokens<'a> + Drop, N: Nested<'a, I>>(
     code: Around,
 ) -> Result<Vec<ClassMember>, Failure>
     requires ready { N.ready nested.now }
-    ensures value { Gives (λ x. (map (view_class_member inner) x.items, state_of I.state p.new)) (spec.bound (stream_of I.machine) (state_of I.state p.new)) result (member_list (stream_of I.machine) (N.reads nested.now I.State I.machine) (code_of code) (state_of I.state p.old)) }
+    ensures value { ReadsBy I.machine I.state (N.reads nested.now) p.old p.new result
+        (λ x. map (view_class_member inner) x.items) (λ m r. member_list m r (code_of code)) }
     ensures fits { IfOk result (λ x. All (λ x. fits_class_member (λ p. p) x) x.items) }
-    ensures shorter { Falls result (spec.bound (stream_of I.machine) (state_of I.state p.new)) (spec.bound (stream_of I.machine) (state_of I.state p.old)) }
+    ensures shorter { Shorter I.machine I.state p.old p.new result }
 {
     let mut list = Vec::new(p.alloc);
     'turns: while member_turn(p, nested, code, &mut list)? {}
@@ -126,9 +130,11 @@ pub fn members<'a, I: Tokens<'a> + Drop, N: Nested<'a, I>>(
 ) -> Result<Box<Class>, Failure>
     requires ready { N.ready nested.now }
     requires super_class { fits_held (λ x. holds_expr x.part.value) super_class }
-    ensures value { Gives (λ x. (view_class inner x.value, state_of I.state p.new)) (spec.bound (stream_of I.machine) (state_of I.state p.new)) result (reads.members_by (stream_of I.machine) (N.reads nested.now I.State I.machine) (code_of code) whole.0 (part_by (λ x. inner x.part.value) super_class) (state_of I.state p.old)) }
+    ensures value { ReadsBy I.machine I.state (N.reads nested.now) p.old p.new result
+        (λ x. view_class inner x.value)
+        (λ m r. reads.members_by m r (code_of code) whole.0 (part_by (λ x. inner x.part.value) super_class)) }
     ensures fits { IfOk result (λ x. fits_class (λ p. p) x.value) }
-    ensures shorter { Falls result (spec.bound (stream_of I.machine) (state_of I.state p.new)) (spec.bound (stream_of I.machine) (state_of I.state p.old)) }
+    ensures shorter { Shorter I.machine I.state p.old p.new result }
 {
     p.expect(kinds::LEFT_BRACE)?;
     let body = member_list(p, nested, code)?;
@@ -145,9 +151,10 @@ pub fn class_tail<'a, I: Tokens<'a> + Drop, N: Nested<'a, I>>(
     whole: BytePos,
 ) -> Result<Box<Class>, Failure>
     requires ready { N.ready nested.now }
-    ensures value { Gives (λ x. (view_class inner x.value, state_of I.state p.new)) (spec.bound (stream_of I.machine) (state_of I.state p.new)) result (reads.class_tail_by (stream_of I.machine) (N.reads nested.now I.State I.machine) (code_of code) whole.0 (state_of I.state p.old)) }
+    ensures value { ReadsBy I.machine I.state (N.reads nested.now) p.old p.new result
+        (λ x. view_class inner x.value) (λ m r. reads.class_tail_by m r (code_of code) whole.0) }
     ensures fits { IfOk result (λ x. fits_class (λ p. p) x.value) }
-    ensures shorter { Falls result (spec.bound (stream_of I.machine) (state_of I.state p.new)) (spec.bound (stream_of I.machine) (state_of I.state p.old)) }
+    ensures shorter { Shorter I.machine I.state p.old p.new result }
 {
     if !p.at(kinds::EXTENDS) {
         return members(p, nested, code, whole, None);
@@ -166,9 +173,10 @@ pub fn class_decl<'a, I: Tokens<'a> + Drop, N: Nested<'a, I>>(
     code: Around,
 ) -> Result<StmtBox, Failure>
     requires ready { N.ready nested.now }
-    ensures value { Gives (λ x. (inner x.part.value, state_of I.state p.new)) (spec.bound (stream_of I.machine) (state_of I.state p.new)) result (reads.class_decl_by (stream_of I.machine) (N.reads nested.now I.State I.machine) (code_of code) (state_of I.state p.old)) }
+    ensures value { ReadsBy I.machine I.state (N.reads nested.now) p.old p.new result
+        tree_in (λ m r. reads.class_decl_by m r (code_of code)) }
     ensures holds { IfOk result (λ x. holds_stmt x.part.value) }
-    ensures shorter { Falls result (spec.bound (stream_of I.machine) (state_of I.state p.new)) (spec.bound (stream_of I.machine) (state_of I.state p.old)) }
+    ensures shorter { Shorter I.machine I.state p.old p.new result }
 {
     let start = p.lo();
     p.eat_word(code, kinds::CLASS)?;
@@ -187,9 +195,10 @@ pub fn class_expr<'a, I: Tokens<'a> + Drop, N: Nested<'a, I>>(
     code: Around,
 ) -> Result<ClassExpr, Failure>
     requires ready { N.ready nested.now }
-    ensures value { Gives (λ x. (view_class_expr inner x, state_of I.state p.new)) (spec.bound (stream_of I.machine) (state_of I.state p.new)) result (expressions.class_expr_by (stream_of I.machine) (N.reads nested.now I.State I.machine) (code_of code) (state_of I.state p.old)) }
+    ensures value { ReadsBy I.machine I.state (N.reads nested.now) p.old p.new result
+        (view_class_expr inner) (λ m r. expressions.class_expr_by m r (code_of code)) }
     ensures fits { IfOk result (λ x. fits_class_expr (λ p. p) x) }
-    ensures shorter { Falls result (spec.bound (stream_of I.machine) (state_of I.state p.new)) (spec.bound (stream_of I.machine) (state_of I.state p.old)) }
+    ensures shorter { Shorter I.machine I.state p.old p.new result }
 {
     let start = p.lo();
     p.eat_word(code, kinds::CLASS)?;
@@ -212,8 +221,9 @@ pub fn class_operand<'a, I: Tokens<'a> + Drop, N: Nested<'a, I>>(
     code: Around,
 ) -> Result<Operand, Failure>
     requires ready { N.ready nested.now }
-    ensures value { Gives (λ x. (tree_of x, state_of I.state p.new)) (spec.bound (stream_of I.machine) (state_of I.state p.new)) result (expressions.class_expr_by (stream_of I.machine) (N.reads nested.now I.State I.machine) (code_of code) (state_of I.state p.old)) }
-    ensures shorter { Falls result (spec.bound (stream_of I.machine) (state_of I.state p.new)) (spec.bound (stream_of I.machine) (state_of I.state p.old)) }
+    ensures value { ReadsBy I.machine I.state (N.reads nested.now) p.old p.new result
+        tree_of (λ m r. expressions.class_expr_by m r (code_of code)) }
+    ensures shorter { Shorter I.machine I.state p.old p.new result }
 {
     let node = class_expr(p, nested, code)?;
     made::class_operand(p.alloc, node)

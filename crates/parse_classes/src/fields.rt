@@ -4,12 +4,11 @@ ghost use Rattle.tree_spec.specs.Tree.{part_by};
 ghost use Rattle.tree_nodes.specs.Fits.{fits_class_member, fits_held, fits_key};
 ghost use Rattle.tree_nodes.specs.Placed.{holds_expr, inner};
 ghost use Rattle.tree_nodes.specs.View.{view_class_member, view_key};
-ghost use Rattle.grammar_spec.specs.Reader.Source as spec;
 ghost use Rattle.grammar_spec.specs.Reader.Statements as reads;
-ghost use Rattle.parse_state.specs.Answers.{Falls, Gives, Stays};
 ghost use Rattle.parse_state.specs.Codes.{code_of};
-ghost use Rattle.parse_state.specs.Cursors.{stream_of};
-ghost use Rattle.parse_state.specs.States.{from, state_of};
+ghost use Rattle.parse_state.specs.States.{from};
+ghost use Rattle.parse_state.specs.Reads.{Shorter, NotLonger};
+ghost use Rattle.parse_operands.specs.Rules.{ReadsBy};
 ghost use Rattle.parse_classes.specs.Members.{field_by};
 
 use crate::made;
@@ -31,9 +30,10 @@ pub fn field_value<'a, I: Tokens<'a> + Drop, N: Nested<'a, I>>(
     end: u8,
 ) -> Result<Option<ExprBox>, Failure>
     requires ready { N.ready nested.now }
-    ensures value { Gives (λ x. (part_by (λ y. inner y.part.value) x, state_of I.state p.new)) (spec.bound (stream_of I.machine) (state_of I.state p.new)) result (reads.field_value (stream_of I.machine) (N.reads nested.now I.State I.machine) (code_of code) end (state_of I.state p.old)) }
+    ensures value { ReadsBy I.machine I.state (N.reads nested.now) p.old p.new result
+        (part_by (λ y. inner y.part.value)) (λ m r. reads.field_value m r (code_of code) end) }
     ensures fits { IfOk result (λ x. fits_held (λ y. holds_expr y.part.value) x) }
-    ensures not_longer { Stays result (spec.bound (stream_of I.machine) (state_of I.state p.new)) (spec.bound (stream_of I.machine) (state_of I.state p.old)) }
+    ensures not_longer { NotLonger I.machine I.state p.old p.new result }
 {
     if p.eat(kinds::ASSIGN)? {
         let value = nested.expr(p, in_field(code), ASSIGNMENT)?;
@@ -53,9 +53,10 @@ pub fn class_key<'a, I: Tokens<'a> + Drop, N: Nested<'a, I>>(
     code: Around,
 ) -> Result<Key, Failure>
     requires ready { N.ready nested.now }
-    ensures value { Gives (λ x. (view_key inner x, state_of I.state p.new)) (spec.bound (stream_of I.machine) (state_of I.state p.new)) result (reads.class_key (stream_of I.machine) (N.reads nested.now I.State I.machine) (code_of code) (state_of I.state p.old)) }
+    ensures value { ReadsBy I.machine I.state (N.reads nested.now) p.old p.new result
+        (view_key inner) (λ m r. reads.class_key m r (code_of code)) }
     ensures fits { IfOk result (λ x. fits_key (λ p. p) x) }
-    ensures shorter { Falls result (spec.bound (stream_of I.machine) (state_of I.state p.new)) (spec.bound (stream_of I.machine) (state_of I.state p.old)) }
+    ensures shorter { Shorter I.machine I.state p.old p.new result }
 {
     if p.at(kinds::HASH) {
         return Ok(Key::Private(private_name(p, nested)?));
@@ -77,9 +78,11 @@ pub fn field<'a, I: Tokens<'a> + Drop, N: Nested<'a, I>>(
 ) -> Result<ClassMember, Failure>
     requires ready { N.ready nested.now }
     requires key { fits_key (λ p. p) key }
-    ensures value { Gives (λ x. (view_class_member inner x, state_of I.state p.new)) (spec.bound (stream_of I.machine) (state_of I.state p.new)) result (field_by (stream_of I.machine) (N.reads nested.now I.State I.machine) (code_of code) (from start.0) is_static end (view_key inner key) (state_of I.state p.old)) }
+    ensures value { ReadsBy I.machine I.state (N.reads nested.now) p.old p.new result
+        (view_class_member inner)
+        (λ m r. field_by m r (code_of code) (from start.0) is_static end (view_key inner key)) }
     ensures fits { IfOk result (λ x. fits_class_member (λ p. p) x) }
-    ensures not_longer { Stays result (spec.bound (stream_of I.machine) (state_of I.state p.new)) (spec.bound (stream_of I.machine) (state_of I.state p.old)) }
+    ensures not_longer { NotLonger I.machine I.state p.old p.new result }
 {
     let value = field_value(p, nested, code, end)?;
     Ok(made::field(p.alloc, p.since(start), key, value, is_static))
@@ -96,9 +99,11 @@ pub fn auto_accessor<'a, I: Tokens<'a> + Drop, N: Nested<'a, I>>(
     is_static: bool,
 ) -> Result<ClassMember, Failure>
     requires ready { N.ready nested.now }
-    ensures value { Gives (λ x. (view_class_member inner x, state_of I.state p.new)) (spec.bound (stream_of I.machine) (state_of I.state p.new)) result (reads.accessor_by (stream_of I.machine) (N.reads nested.now I.State I.machine) (code_of code) (from start.0) is_static (state_of I.state p.old)) }
+    ensures value { ReadsBy I.machine I.state (N.reads nested.now) p.old p.new result
+        (view_class_member inner)
+        (λ m r. reads.accessor_by m r (code_of code) (from start.0) is_static) }
     ensures fits { IfOk result (λ x. fits_class_member (λ p. p) x) }
-    ensures shorter { Falls result (spec.bound (stream_of I.machine) (state_of I.state p.new)) (spec.bound (stream_of I.machine) (state_of I.state p.old)) }
+    ensures shorter { Shorter I.machine I.state p.old p.new result }
 {
     p.bump()?;
     let key = class_key(p, nested, code)?;

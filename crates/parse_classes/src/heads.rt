@@ -36,7 +36,8 @@ pub fn is_before_key<'a, I: Tokens<'a> + Drop, N: Nested<'a, I>>(
     kind: u8,
 ) -> Result<bool, Failure>
     requires { 0 < kind }
-    ensures value { IfOk result (λ b. b ≡ before_key (stream_of I.machine) (N.reads _nested.now I.State I.machine) kind (state_of I.state p.now)) }
+    ensures value { IfOk result (λ b. b ≡ before_key (stream_of I.machine)
+        (N.reads _nested.now I.State I.machine) kind (state_of I.state p.now)) }
     ensures full { IfErr result IsMemory }
 {
     if !p.at(kind) {
@@ -56,7 +57,8 @@ pub fn is_auto_accessor<'a, I: Tokens<'a> + Drop, N: Nested<'a, I>>(
     _nested: &N,
     code: Around,
 ) -> Result<bool, Failure>
-    ensures value { IfOk result (λ b. b ≡ starts_accessor (stream_of I.machine) (N.reads _nested.now I.State I.machine) (code_of code) (state_of I.state p.now)) }
+    ensures value { IfOk result (λ b. b ≡ starts_accessor (stream_of I.machine)
+        (N.reads _nested.now I.State I.machine) (code_of code) (state_of I.state p.now)) }
     ensures full { IfErr result IsMemory }
 {
     if !code.syntax.auto_accessors || !p.at(kinds::ACCESSOR) {
@@ -75,7 +77,8 @@ pub fn is_static<'a, I: Tokens<'a> + Drop, N: Nested<'a, I>>(
     p: &Parser<'a, I>,
     _nested: &N,
 ) -> Result<bool, Failure>
-    ensures value { IfOk result (λ b. b ≡ reads.starts_static (stream_of I.machine) (N.reads _nested.now I.State I.machine) (state_of I.state p.now)) }
+    ensures value { IfOk result (λ b. b ≡ reads.starts_static (stream_of I.machine)
+        (N.reads _nested.now I.State I.machine) (state_of I.state p.now)) }
     ensures full { IfErr result IsMemory }
 {
     if !p.at(kinds::STATIC) {

@@ -41,7 +41,8 @@ pub fn constructs(key: &PropName) -> bool
 pub fn constructor(span: Span, key: PropName, function: Box<Function>) -> ClassMember
     requires key { fits_prop_name (λ p. p) key }
     requires function { fits_function (λ p. p) function.value }
-    ensures value { view_class_member inner result ≡ constructor_from span (view_prop_name inner key) (view_function inner function.value) }
+    ensures value { view_class_member inner result
+        ≡ constructor_from span (view_prop_name inner key) (view_function inner function.value) }
     ensures fits { fits_class_member (λ p. p) result }
 {
     let function = Box::into_inner(function);
@@ -64,7 +65,9 @@ pub fn class_method(
 ) -> ClassMember
     requires key { fits_prop_name (λ p. p) key }
     requires function { fits_function (λ p. p) function.value }
-    ensures value { view_class_member inner result ≡ class_method span (view_prop_name inner key) (view_function inner function.value) (method_kind_word kind) is_static }
+    ensures value { view_class_member inner result
+        ≡ class_method span (view_prop_name inner key) (view_function inner function.value)
+        (method_kind_word kind) is_static }
     ensures fits { fits_class_member (λ p. p) result }
 {
     ClassMember::Method(ClassMethod {
@@ -86,7 +89,9 @@ pub fn private_method(
     is_static: bool,
 ) -> ClassMember
     requires { fits_function (λ p. p) function.value }
-    ensures value { view_class_member inner result ≡ private_method span (view_private_name key) (view_function inner function.value) (method_kind_word kind) is_static }
+    ensures value { view_class_member inner result
+        ≡ private_method span (view_private_name key) (view_function inner function.value)
+        (method_kind_word kind) is_static }
     ensures fits { fits_class_member (λ p. p) result }
 {
     ClassMember::PrivateMethod(PrivateMethod {
@@ -109,7 +114,9 @@ pub fn method(
 ) -> ClassMember
     requires key { fits_key (λ p. p) key }
     requires function { fits_function (λ p. p) function.value }
-    ensures value { view_class_member inner result ≡ method_of span (view_key inner key) (view_function inner function.value) (method_kind_word kind) is_static }
+    ensures value { view_class_member inner result
+        ≡ method_of span (view_key inner key) (view_function inner function.value)
+        (method_kind_word kind) is_static }
     ensures fits { fits_class_member (λ p. p) result }
 {
     match key {
@@ -130,7 +137,9 @@ pub fn plain_method(
 ) -> ClassMember
     requires key { fits_key (λ p. p) key }
     requires function { fits_function (λ p. p) function.value }
-    ensures value { view_class_member inner result ≡ plain_method_of span (view_key inner key) (view_function inner function.value) is_static may_construct }
+    ensures value { view_class_member inner result
+        ≡ plain_method_of span (view_key inner key) (view_function inner function.value) is_static
+        may_construct }
     ensures fits { fits_class_member (λ p. p) result }
 {
     match key {
@@ -155,7 +164,9 @@ pub fn class_prop(
 ) -> ClassMember
     requires key { fits_prop_name (λ p. p) key }
     requires value { fits_held (λ x. holds_expr x.part.value) value }
-    ensures value { view_class_member inner result ≡ class_prop span (view_prop_name inner key) (part_by (λ x. inner x.part.value) value) is_static none }
+    ensures value { view_class_member inner result
+        ≡ class_prop span (view_prop_name inner key) (part_by (λ x. inner x.part.value) value)
+        is_static none }
     ensures fits { fits_class_member (λ p. p) result }
 {
     ClassMember::ClassProp(ClassProp {
@@ -177,7 +188,9 @@ pub fn private_prop(
     is_static: bool,
 ) -> ClassMember
     requires { fits_held (λ x. holds_expr x.part.value) value }
-    ensures value { view_class_member inner result ≡ private_prop span (view_private_name key) (part_by (λ x. inner x.part.value) value) is_static none }
+    ensures value { view_class_member inner result
+        ≡ private_prop span (view_private_name key) (part_by (λ x. inner x.part.value) value)
+        is_static none }
     ensures fits { fits_class_member (λ p. p) result }
 {
     ClassMember::PrivateProp(PrivateProp {
@@ -201,7 +214,8 @@ pub fn field(
 ) -> ClassMember
     requires key { fits_key (λ p. p) key }
     requires value { fits_held (λ x. holds_expr x.part.value) value }
-    ensures value { view_class_member inner result ≡ field_of span (view_key inner key) (part_by (λ x. inner x.part.value) value) is_static }
+    ensures value { view_class_member inner result
+        ≡ field_of span (view_key inner key) (part_by (λ x. inner x.part.value) value) is_static }
     ensures fits { fits_class_member (λ p. p) result }
 {
     match key {
@@ -221,7 +235,9 @@ pub fn auto_accessor(
 ) -> ClassMember
     requires key { fits_key (λ p. p) key }
     requires value { fits_held (λ x. holds_expr x.part.value) value }
-    ensures value { view_class_member inner result ≡ auto_accessor span (view_key inner key) (part_by (λ x. inner x.part.value) value) is_static none }
+    ensures value { view_class_member inner result
+        ≡ auto_accessor span (view_key inner key) (part_by (λ x. inner x.part.value) value)
+        is_static none }
     ensures fits { fits_class_member (λ p. p) result }
 {
     ClassMember::AutoAccessor(AutoAccessor {
@@ -261,7 +277,9 @@ pub fn class(
 ) -> Result<Box<Class>, Failure>
     requires body { All (λ x. fits_class_member (λ p. p) x) body.items }
     requires super_class { fits_held (λ x. holds_expr x.part.value) super_class }
-    ensures value { IfOk result (λ x. view_class inner x.value ≡ class span none (trees_by (view_class_member inner) body.items) (part_by (λ x. inner x.part.value) super_class)) }
+    ensures value { IfOk result (λ x. view_class inner x.value
+        ≡ class span none (trees_by (view_class_member inner) body.items)
+        (part_by (λ x. inner x.part.value) super_class)) }
     ensures fits { IfOk result (λ x. fits_class (λ p. p) x.value) }
     ensures full { IfErr result IsMemory }
 {
@@ -283,7 +301,8 @@ pub fn class_decl(
     class: Box<Class>,
 ) -> Result<StmtBox, Failure>
     requires { fits_class (λ p. p) class.value }
-    ensures value { IfOk result (λ x. inner x.part.value ≡ class_decl span (view_ident ident) (view_class inner class.value)) }
+    ensures value { IfOk result (λ x. inner x.part.value
+        ≡ class_decl span (view_ident ident) (view_class inner class.value)) }
     ensures holds { IfOk result (λ x. holds_stmt x.part.value) }
     ensures full { IfErr result IsMemory }
 {
@@ -295,7 +314,8 @@ pub fn class_decl(
 /// A class as an expression, with its name or without.
 pub fn class_expr(span: Span, ident: Option<Ident>, class: Box<Class>) -> ClassExpr
     requires { fits_class (λ p. p) class.value }
-    ensures value { view_class_expr inner result ≡ class_expr span (part_by view_ident ident) (view_class inner class.value) }
+    ensures value { view_class_expr inner result
+        ≡ class_expr span (part_by view_ident ident) (view_class inner class.value) }
     ensures fits { fits_class_expr (λ p. p) result }
 {
     ClassExpr { span, ident, class }

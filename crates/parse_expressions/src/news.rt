@@ -1,11 +1,10 @@
 //! `new`.
-ghost use Rattle.grammar_spec.specs.Reader.Source as spec;
 ghost use Rattle.grammar_spec.specs.Reader.Expressions as reads;
-ghost use Rattle.parse_state.specs.Answers.{Falls, Gives, Stays};
 ghost use Rattle.parse_state.specs.Codes.{code_of};
-ghost use Rattle.parse_state.specs.Cursors.{stream_of};
-ghost use Rattle.parse_state.specs.States.{from, state_of};
+ghost use Rattle.parse_state.specs.States.{from};
+ghost use Rattle.parse_state.specs.Reads.{ReadsAs, Shorter, NotLonger};
 ghost use Rattle.parse_operands.specs.Operands.{tree_of};
+ghost use Rattle.parse_operands.specs.Rules.{ReadsBy};
 ghost use Rattle.parse_expressions.specs.News as pieces;
 
 use crate::prefixes::callee;
@@ -27,8 +26,9 @@ pub fn new_call<'a, I: Tokens<'a> + Drop, N: Nested<'a, I>>(
     f: Operand,
 ) -> Result<Operand, Failure>
     requires ready { N.ready nested.now }
-    ensures value { Gives (λ x. (tree_of x, state_of I.state p.new)) (spec.bound (stream_of I.machine) (state_of I.state p.new)) result (pieces.new_call_by (stream_of I.machine) (N.reads nested.now I.State I.machine) (code_of code) (from start.0) (tree_of f) (state_of I.state p.old)) }
-    ensures shorter { Falls result (spec.bound (stream_of I.machine) (state_of I.state p.new)) (spec.bound (stream_of I.machine) (state_of I.state p.old)) }
+    ensures value { ReadsBy I.machine I.state (N.reads nested.now) p.old p.new result
+        tree_of (λ m r. pieces.new_call_by m r (code_of code) (from start.0) (tree_of f)) }
+    ensures shorter { Shorter I.machine I.state p.old p.new result }
 {
     p.bump()?;
     let args = arguments(p, nested, code)?;
@@ -44,7 +44,8 @@ pub fn bare_new<'a, I: Tokens<'a> + Drop>(
     start: BytePos,
     f: Operand,
 ) -> Result<Operand, Failure>
-    ensures value { Gives (λ x. (tree_of x, state_of I.state p.now)) (spec.bound (stream_of I.machine) (state_of I.state p.now)) result (pieces.bare_new_by (stream_of I.machine) (code_of code) (from start.0) (tree_of f) (state_of I.state p.now)) }
+    ensures value { ReadsAs I.machine I.state p.now p.now result
+        tree_of (λ m. pieces.bare_new_by m (code_of code) (from start.0) (tree_of f)) }
 {
     let goes = p.goes(code, OTHER_END)?;
     if (f.level >= MEMBER || f.level == NEW_LEVEL) && goes < CALL {
@@ -64,8 +65,9 @@ pub fn new_end<'a, I: Tokens<'a> + Drop, N: Nested<'a, I>>(
     f: Operand,
 ) -> Result<Operand, Failure>
     requires ready { N.ready nested.now }
-    ensures value { Gives (λ x. (tree_of x, state_of I.state p.new)) (spec.bound (stream_of I.machine) (state_of I.state p.new)) result (reads.new_end (stream_of I.machine) (N.reads nested.now I.State I.machine) (code_of code) (from start.0) (tree_of f) (state_of I.state p.old)) }
-    ensures not_longer { Stays result (spec.bound (stream_of I.machine) (state_of I.state p.new)) (spec.bound (stream_of I.machine) (state_of I.state p.old)) }
+    ensures value { ReadsBy I.machine I.state (N.reads nested.now) p.old p.new result
+        tree_of (λ m r. reads.new_end m r (code_of code) (from start.0) (tree_of f)) }
+    ensures not_longer { NotLonger I.machine I.state p.old p.new result }
 {
     if p.at(kinds::LEFT_PAREN) && f.level >= MEMBER {
         return new_call(p, nested, code, start, f);
@@ -82,8 +84,9 @@ pub fn new_expr<'a, I: Tokens<'a> + Drop, N: Nested<'a, I>>(
     code: Around,
 ) -> Result<Operand, Failure>
     requires ready { N.ready nested.now }
-    ensures value { Gives (λ x. (tree_of x, state_of I.state p.new)) (spec.bound (stream_of I.machine) (state_of I.state p.new)) result (reads.new_by (stream_of I.machine) (N.reads nested.now I.State I.machine) (code_of code) (state_of I.state p.old)) }
-    ensures shorter { Falls result (spec.bound (stream_of I.machine) (state_of I.state p.new)) (spec.bound (stream_of I.machine) (state_of I.state p.old)) }
+    ensures value { ReadsBy I.machine I.state (N.reads nested.now) p.old p.new result
+        tree_of (λ m r. reads.new_by m r (code_of code)) }
+    ensures shorter { Shorter I.machine I.state p.old p.new result }
 {
     let start = p.lo();
     p.eat_word(code, kinds::NEW)?;

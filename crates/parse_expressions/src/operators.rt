@@ -5,14 +5,14 @@ ghost use Rattle.grammar_spec.specs.Tokens.Input.{kind, kind2, lo};
 ghost use Rattle.tree_nodes.specs.Fits.{fits_expr_or_spread, fits_member_prop};
 ghost use Rattle.tree_nodes.specs.Placed.{holds_expr, inner};
 ghost use Rattle.tree_nodes.specs.View.{unary_op_word, update_op_word, view_computed_prop_name, view_expr_or_spread, view_member_prop, view_private_name};
-ghost use Rattle.grammar_spec.specs.Reader.Source as spec;
 ghost use Rattle.grammar_spec.specs.Reader.Expressions as reads;
-ghost use Rattle.parse_state.specs.Answers.{Falls, Gives, going_on};
+ghost use Rattle.parse_state.specs.Answers.{going_on};
 ghost use Rattle.parse_state.specs.Codes.{code_of};
-ghost use Rattle.parse_state.specs.Cursors.{stream_of};
-ghost use Rattle.parse_state.specs.States.{from, from_span, state_of};
+ghost use Rattle.parse_state.specs.States.{from, from_span};
+ghost use Rattle.parse_state.specs.Reads.{at_hand, Shorter};
 ghost use Rattle.parse_operands.specs.Lists.{arguments_of, elements_of, FitArguments, FitElements};
 ghost use Rattle.parse_operands.specs.Operands.{tree_of};
+ghost use Rattle.parse_operands.specs.Rules.{ReadsBy};
 
 use base_token::{AssignOp, BinaryOp, BytePos};
 use parse_operands::elements::arguments;
@@ -37,8 +37,9 @@ pub fn conditional<'a, I: Tokens<'a> + Drop, N: Nested<'a, I>>(
     test: Operand,
 ) -> Result<Operand, Failure>
     requires ready { N.ready nested.now }
-    ensures value { Gives (λ x. (tree_of x, state_of I.state p.new)) (spec.bound (stream_of I.machine) (state_of I.state p.new)) result (reads.cond_by (stream_of I.machine) (N.reads nested.now I.State I.machine) (code_of code) (from start.0) (tree_of test) (state_of I.state p.old)) }
-    ensures shorter { Falls result (spec.bound (stream_of I.machine) (state_of I.state p.new)) (spec.bound (stream_of I.machine) (state_of I.state p.old)) }
+    ensures value { ReadsBy I.machine I.state (N.reads nested.now) p.old p.new result
+        tree_of (λ m r. reads.cond_by m r (code_of code) (from start.0) (tree_of test)) }
+    ensures shorter { Shorter I.machine I.state p.old p.new result }
 {
     let test = Held { value: test };
     p.bump()?;
@@ -61,10 +62,11 @@ pub fn binary<'a, I: Tokens<'a> + Drop, N: Nested<'a, I>>(
     left: Operand,
 ) -> Result<Operand, Failure>
     requires ready { N.ready nested.now }
-    requires op { binary_op_kind op ≡ kind (spec.input (stream_of I.machine) (state_of I.state p.old)) }
-    requires some { kind (spec.input (stream_of I.machine) (state_of I.state p.old)) ≢ 0 }
-    ensures value { Gives (λ x. (tree_of x, state_of I.state p.new)) (spec.bound (stream_of I.machine) (state_of I.state p.new)) result (reads.binary_by (stream_of I.machine) (N.reads nested.now I.State I.machine) (code_of code) (from start.0) (tree_of left) (state_of I.state p.old)) }
-    ensures shorter { Falls result (spec.bound (stream_of I.machine) (state_of I.state p.new)) (spec.bound (stream_of I.machine) (state_of I.state p.old)) }
+    requires op { binary_op_kind op ≡ kind (at_hand I.machine I.state p.old) }
+    requires some { kind (at_hand I.machine I.state p.old) ≢ 0 }
+    ensures value { ReadsBy I.machine I.state (N.reads nested.now) p.old p.new result
+        tree_of (λ m r. reads.binary_by m r (code_of code) (from start.0) (tree_of left)) }
+    ensures shorter { Shorter I.machine I.state p.old p.new result }
 {
     let left = Held { value: left };
     let kind = p.kind();
@@ -85,9 +87,10 @@ pub fn assignment<'a, I: Tokens<'a> + Drop, N: Nested<'a, I>>(
     left: Operand,
 ) -> Result<Operand, Failure>
     requires ready { N.ready nested.now }
-    requires op { assign_op_kind op ≡ kind (spec.input (stream_of I.machine) (state_of I.state p.old)) }
-    ensures value { Gives (λ x. (tree_of x, state_of I.state p.new)) (spec.bound (stream_of I.machine) (state_of I.state p.new)) result (reads.assign_by (stream_of I.machine) (N.reads nested.now I.State I.machine) (code_of code) (from start.0) (tree_of left) (state_of I.state p.old)) }
-    ensures shorter { Falls result (spec.bound (stream_of I.machine) (state_of I.state p.new)) (spec.bound (stream_of I.machine) (state_of I.state p.old)) }
+    requires op { assign_op_kind op ≡ kind (at_hand I.machine I.state p.old) }
+    ensures value { ReadsBy I.machine I.state (N.reads nested.now) p.old p.new result
+        tree_of (λ m r. reads.assign_by m r (code_of code) (from start.0) (tree_of left)) }
+    ensures shorter { Shorter I.machine I.state p.old p.new result }
 {
     let target = nested.target(p, p.kind(), left)?;
     p.bump()?;
@@ -103,9 +106,10 @@ pub fn member_name<'a, I: Tokens<'a> + Drop, N: Nested<'a, I>>(
     nested: &N,
 ) -> Result<MemberProp, Failure>
     requires ready { N.ready nested.now }
-    ensures value { Gives (λ x. (view_member_prop inner x, state_of I.state p.new)) (spec.bound (stream_of I.machine) (state_of I.state p.new)) result (reads.member_name (stream_of I.machine) (N.reads nested.now I.State I.machine) true (state_of I.state p.old)) }
+    ensures value { ReadsBy I.machine I.state (N.reads nested.now) p.old p.new result
+        (view_member_prop inner) (λ m r. reads.member_name m r true) }
     ensures fits { IfOk result (λ x. fits_member_prop (λ p. p) x) }
-    ensures shorter { Falls result (spec.bound (stream_of I.machine) (state_of I.state p.new)) (spec.bound (stream_of I.machine) (state_of I.state p.old)) }
+    ensures shorter { Shorter I.machine I.state p.old p.new result }
 {
     if p.at(kinds::HASH) {
         return Ok(MemberProp::PrivateName(private_name(p, nested)?));
@@ -126,8 +130,9 @@ pub fn member<'a, I: Tokens<'a> + Drop, N: Nested<'a, I>>(
     obj: Operand,
 ) -> Result<Operand, Failure>
     requires ready { N.ready nested.now }
-    ensures value { Gives (λ x. (tree_of x, state_of I.state p.new)) (spec.bound (stream_of I.machine) (state_of I.state p.new)) result (reads.member_by (stream_of I.machine) (N.reads nested.now I.State I.machine) (code_of _code) (from start.0) (tree_of obj) (state_of I.state p.old)) }
-    ensures shorter { Falls result (spec.bound (stream_of I.machine) (state_of I.state p.new)) (spec.bound (stream_of I.machine) (state_of I.state p.old)) }
+    ensures value { ReadsBy I.machine I.state (N.reads nested.now) p.old p.new result
+        tree_of (λ m r. reads.member_by m r (code_of _code) (from start.0) (tree_of obj)) }
+    ensures shorter { Shorter I.machine I.state p.old p.new result }
 {
     p.bump()?;
     let prop = member_name(p, nested)?;
@@ -145,8 +150,9 @@ pub fn index<'a, I: Tokens<'a> + Drop, N: Nested<'a, I>>(
     obj: Operand,
 ) -> Result<Operand, Failure>
     requires ready { N.ready nested.now }
-    ensures value { Gives (λ x. (tree_of x, state_of I.state p.new)) (spec.bound (stream_of I.machine) (state_of I.state p.new)) result (reads.index_by (stream_of I.machine) (N.reads nested.now I.State I.machine) (code_of code) (from start.0) (tree_of obj) (state_of I.state p.old)) }
-    ensures shorter { Falls result (spec.bound (stream_of I.machine) (state_of I.state p.new)) (spec.bound (stream_of I.machine) (state_of I.state p.old)) }
+    ensures value { ReadsBy I.machine I.state (N.reads nested.now) p.old p.new result
+        tree_of (λ m r. reads.index_by m r (code_of code) (from start.0) (tree_of obj)) }
+    ensures shorter { Shorter I.machine I.state p.old p.new result }
 {
     let key = computed(p, nested, code, EXPRESSION)?;
     made::member_of(p.alloc, p.since(start), obj, MemberProp::Computed(key))
@@ -163,8 +169,9 @@ pub fn call<'a, I: Tokens<'a> + Drop, N: Nested<'a, I>>(
     callee: Operand,
 ) -> Result<Operand, Failure>
     requires ready { N.ready nested.now }
-    ensures value { Gives (λ x. (tree_of x, state_of I.state p.new)) (spec.bound (stream_of I.machine) (state_of I.state p.new)) result (reads.call_by (stream_of I.machine) (N.reads nested.now I.State I.machine) (code_of code) (from start.0) (tree_of callee) (state_of I.state p.old)) }
-    ensures shorter { Falls result (spec.bound (stream_of I.machine) (state_of I.state p.new)) (spec.bound (stream_of I.machine) (state_of I.state p.old)) }
+    ensures value { ReadsBy I.machine I.state (N.reads nested.now) p.old p.new result
+        tree_of (λ m r. reads.call_by m r (code_of code) (from start.0) (tree_of callee)) }
+    ensures shorter { Shorter I.machine I.state p.old p.new result }
 {
     p.bump()?;
     let args = arguments(p, nested, code)?;
@@ -182,8 +189,9 @@ pub fn chain<'a, I: Tokens<'a> + Drop, N: Nested<'a, I>>(
     obj: Operand,
 ) -> Result<Operand, Failure>
     requires ready { N.ready nested.now }
-    ensures value { Gives (λ x. (tree_of x, state_of I.state p.new)) (spec.bound (stream_of I.machine) (state_of I.state p.new)) result (reads.chain_by (stream_of I.machine) (N.reads nested.now I.State I.machine) (code_of code) (from start.0) (tree_of obj) (state_of I.state p.old)) }
-    ensures shorter { Falls result (spec.bound (stream_of I.machine) (state_of I.state p.new)) (spec.bound (stream_of I.machine) (state_of I.state p.old)) }
+    ensures value { ReadsBy I.machine I.state (N.reads nested.now) p.old p.new result
+        tree_of (λ m r. reads.chain_by m r (code_of code) (from start.0) (tree_of obj)) }
+    ensures shorter { Shorter I.machine I.state p.old p.new result }
 {
     let obj = Held { value: obj };
     if p.eat(kinds::LEFT_PAREN)? {

@@ -5,14 +5,15 @@ ghost use Rattle.grammar_spec.specs.Tokens.Input.{kind, kind2, lo, first_span, s
 ghost use Rattle.tree_nodes.specs.Fits.{fits_expr_or_spread, fits_member_prop};
 ghost use Rattle.tree_nodes.specs.Placed.{holds_expr, inner};
 ghost use Rattle.tree_nodes.specs.View.{unary_op_word, update_op_word, view_computed_prop_name, view_expr_or_spread, view_member_prop, view_private_name};
-ghost use Rattle.grammar_spec.specs.Reader.Source as spec;
 ghost use Rattle.grammar_spec.specs.Reader.Expressions as reads;
-ghost use Rattle.parse_state.specs.Answers.{Falls, Gives, going_on, Stays};
+ghost use Rattle.parse_state.specs.Answers.{going_on};
 ghost use Rattle.parse_state.specs.Codes.{code_of};
 ghost use Rattle.parse_state.specs.Cursors.{stream_of};
-ghost use Rattle.parse_state.specs.States.{from, from_span, state_of};
+ghost use Rattle.parse_state.specs.States.{from, from_span};
+ghost use Rattle.parse_state.specs.Reads.{at_hand, ReadsAs, Shorter, NotLonger};
 ghost use Rattle.parse_operands.specs.Lists.{arguments_of, elements_of, FitArguments, FitElements};
 ghost use Rattle.parse_operands.specs.Operands.{tree_of};
+ghost use Rattle.parse_operands.specs.Rules.{ReadsBy};
 ghost use Rattle.parse_expressions.specs.Words.{fixed_word};
 
 use base_token::{BytePos, Error, Span, SyntaxError, Token};
@@ -32,8 +33,9 @@ pub fn literal<'a, I: Tokens<'a> + Drop, N: Nested<'a, I>>(
     _nested: &N,
 ) -> Result<Operand, Failure>
     requires ready { N.ready _nested.now }
-    ensures value { Gives (λ x. (tree_of x, state_of I.state p.new)) (spec.bound (stream_of I.machine) (state_of I.state p.new)) result (reads.literal_by (stream_of I.machine) (N.reads _nested.now I.State I.machine) (state_of I.state p.old)) }
-    ensures shorter { Falls result (spec.bound (stream_of I.machine) (state_of I.state p.new)) (spec.bound (stream_of I.machine) (state_of I.state p.old)) }
+    ensures value { ReadsBy I.machine I.state (N.reads _nested.now) p.old p.new result
+        tree_of (λ m r. reads.literal_by m r) }
+    ensures shorter { Shorter I.machine I.state p.old p.new result }
 {
     let span = p.place();
     let fault = p.unexpected();
@@ -57,9 +59,10 @@ pub fn literal<'a, I: Tokens<'a> + Drop, N: Nested<'a, I>>(
 /// Takes a word that is a word of the grammar here, for its place.
 #[tactic(auto, unfolding(crate::specs::Words::fixed_word))]
 pub fn fixed<'a, I: Tokens<'a> + Drop>(p: &mut Parser<'a, I>, code: Around) -> Result<Span, Failure>
-    requires { kind (spec.input (stream_of I.machine) (state_of I.state p.old)) ≢ 0 }
-    ensures value { Gives (λ x. (x, state_of I.state p.new)) (spec.bound (stream_of I.machine) (state_of I.state p.new)) result (fixed_word (stream_of I.machine) (code_of code) (state_of I.state p.old)) }
-    ensures shorter { Falls result (spec.bound (stream_of I.machine) (state_of I.state p.new)) (spec.bound (stream_of I.machine) (state_of I.state p.old)) }
+    requires { kind (at_hand I.machine I.state p.old) ≢ 0 }
+    ensures value { ReadsAs I.machine I.state p.old p.new result
+        (λ x. x) (λ m. fixed_word m (code_of code)) }
+    ensures shorter { Shorter I.machine I.state p.old p.new result }
 {
     let start = p.lo();
     p.eat_word(code, p.kind())?;
@@ -76,10 +79,11 @@ pub fn unary<'a, I: Tokens<'a> + Drop, N: Nested<'a, I>>(
     op: UnaryOp,
 ) -> Result<Operand, Failure>
     requires ready { N.ready nested.now }
-    requires op { unary_op_word op ≡ kind (spec.input (stream_of I.machine) (state_of I.state p.old)) }
-    requires some { kind (spec.input (stream_of I.machine) (state_of I.state p.old)) ≢ 0 }
-    ensures value { Gives (λ x. (tree_of x, state_of I.state p.new)) (spec.bound (stream_of I.machine) (state_of I.state p.new)) result (reads.unary_by (stream_of I.machine) (N.reads nested.now I.State I.machine) (code_of code) (state_of I.state p.old)) }
-    ensures shorter { Falls result (spec.bound (stream_of I.machine) (state_of I.state p.new)) (spec.bound (stream_of I.machine) (state_of I.state p.old)) }
+    requires op { unary_op_word op ≡ kind (at_hand I.machine I.state p.old) }
+    requires some { kind (at_hand I.machine I.state p.old) ≢ 0 }
+    ensures value { ReadsBy I.machine I.state (N.reads nested.now) p.old p.new result
+        tree_of (λ m r. reads.unary_by m r (code_of code)) }
+    ensures shorter { Shorter I.machine I.state p.old p.new result }
 {
     let start = p.lo();
     p.eat_word(code, p.kind())?;
@@ -97,9 +101,10 @@ pub fn update<'a, I: Tokens<'a> + Drop, N: Nested<'a, I>>(
     op: UpdateOp,
 ) -> Result<Operand, Failure>
     requires ready { N.ready nested.now }
-    requires op { update_op_word op ≡ kind (spec.input (stream_of I.machine) (state_of I.state p.old)) }
-    ensures value { Gives (λ x. (tree_of x, state_of I.state p.new)) (spec.bound (stream_of I.machine) (state_of I.state p.new)) result (reads.update_by (stream_of I.machine) (N.reads nested.now I.State I.machine) (code_of code) (state_of I.state p.old)) }
-    ensures shorter { Falls result (spec.bound (stream_of I.machine) (state_of I.state p.new)) (spec.bound (stream_of I.machine) (state_of I.state p.old)) }
+    requires op { update_op_word op ≡ kind (at_hand I.machine I.state p.old) }
+    ensures value { ReadsBy I.machine I.state (N.reads nested.now) p.old p.new result
+        tree_of (λ m r. reads.update_by m r (code_of code)) }
+    ensures shorter { Shorter I.machine I.state p.old p.new result }
 {
     let start = p.lo();
     p.bump()?;
@@ -116,8 +121,9 @@ pub fn awaited<'a, I: Tokens<'a> + Drop, N: Nested<'a, I>>(
     code: Around,
 ) -> Result<Operand, Failure>
     requires ready { N.ready nested.now }
-    ensures value { Gives (λ x. (tree_of x, state_of I.state p.new)) (spec.bound (stream_of I.machine) (state_of I.state p.new)) result (reads.await_by (stream_of I.machine) (N.reads nested.now I.State I.machine) (code_of code) (state_of I.state p.old)) }
-    ensures shorter { Falls result (spec.bound (stream_of I.machine) (state_of I.state p.new)) (spec.bound (stream_of I.machine) (state_of I.state p.old)) }
+    ensures value { ReadsBy I.machine I.state (N.reads nested.now) p.old p.new result
+        tree_of (λ m r. reads.await_by m r (code_of code)) }
+    ensures shorter { Shorter I.machine I.state p.old p.new result }
 {
     let start = p.lo();
     p.eat_word(code, kinds::AWAIT)?;
@@ -156,8 +162,9 @@ pub fn yield_end<'a, I: Tokens<'a> + Drop, N: Nested<'a, I>>(
     start: BytePos,
 ) -> Result<Operand, Failure>
     requires ready { N.ready nested.now }
-    ensures value { Gives (λ x. (tree_of x, state_of I.state p.new)) (spec.bound (stream_of I.machine) (state_of I.state p.new)) result (reads.yield_end (stream_of I.machine) (N.reads nested.now I.State I.machine) (code_of code) (from start.0) (state_of I.state p.old)) }
-    ensures not_longer { Stays result (spec.bound (stream_of I.machine) (state_of I.state p.new)) (spec.bound (stream_of I.machine) (state_of I.state p.old)) }
+    ensures value { ReadsBy I.machine I.state (N.reads nested.now) p.old p.new result
+        tree_of (λ m r. reads.yield_end m r (code_of code) (from start.0)) }
+    ensures not_longer { NotLonger I.machine I.state p.old p.new result }
 {
     if p.breaks() || ends_yield(p, nested, p.kind()) {
         return made::bare_yield(p.alloc, p.since(start));
@@ -179,8 +186,9 @@ pub fn array<'a, I: Tokens<'a> + Drop, N: Nested<'a, I>>(
     code: Around,
 ) -> Result<Operand, Failure>
     requires ready { N.ready nested.now }
-    ensures value { Gives (λ x. (tree_of x, state_of I.state p.new)) (spec.bound (stream_of I.machine) (state_of I.state p.new)) result (reads.array_by (stream_of I.machine) (N.reads nested.now I.State I.machine) (code_of code) (state_of I.state p.old)) }
-    ensures shorter { Falls result (spec.bound (stream_of I.machine) (state_of I.state p.new)) (spec.bound (stream_of I.machine) (state_of I.state p.old)) }
+    ensures value { ReadsBy I.machine I.state (N.reads nested.now) p.old p.new result
+        tree_of (λ m r. reads.array_by m r (code_of code)) }
+    ensures shorter { Shorter I.machine I.state p.old p.new result }
 {
     let start = p.lo();
     p.bump()?;
@@ -201,8 +209,9 @@ pub fn callee<'a, I: Tokens<'a> + Drop, N: Nested<'a, I>>(
     code: Around,
 ) -> Result<Operand, Failure>
     requires ready { N.ready nested.now }
-    ensures value { Gives (λ x. (tree_of x, state_of I.state p.new)) (spec.bound (stream_of I.machine) (state_of I.state p.new)) result (reads.callee_by (stream_of I.machine) (N.reads nested.now I.State I.machine) (code_of code) (state_of I.state p.old)) }
-    ensures shorter { Falls result (spec.bound (stream_of I.machine) (state_of I.state p.new)) (spec.bound (stream_of I.machine) (state_of I.state p.old)) }
+    ensures value { ReadsBy I.machine I.state (N.reads nested.now) p.old p.new result
+        tree_of (λ m r. reads.callee_by m r (code_of code)) }
+    ensures shorter { Shorter I.machine I.state p.old p.new result }
 {
     if p.at(kinds::ASYNC) {
         let (second, _) = p.second()?;
@@ -225,8 +234,9 @@ pub fn super_end<'a, I: Tokens<'a> + Drop, N: Nested<'a, I>>(
     place: Span,
 ) -> Result<Operand, Failure>
     requires ready { N.ready nested.now }
-    ensures value { Gives (λ x. (tree_of x, state_of I.state p.new)) (spec.bound (stream_of I.machine) (state_of I.state p.new)) result (reads.super_end (stream_of I.machine) (N.reads nested.now I.State I.machine) (code_of code) (from_span place) (state_of I.state p.old)) }
-    ensures shorter { Falls result (spec.bound (stream_of I.machine) (state_of I.state p.new)) (spec.bound (stream_of I.machine) (state_of I.state p.old)) }
+    ensures value { ReadsBy I.machine I.state (N.reads nested.now) p.old p.new result
+        tree_of (λ m r. reads.super_end m r (code_of code) (from_span place)) }
+    ensures shorter { Shorter I.machine I.state p.old p.new result }
 {
     if p.eat(kinds::LEFT_PAREN)? {
         let args = arguments(p, nested, code)?;
@@ -264,8 +274,9 @@ pub fn yielded<'a, I: Tokens<'a> + Drop, N: Nested<'a, I>>(
     code: Around,
 ) -> Result<Operand, Failure>
     requires ready { N.ready nested.now }
-    ensures value { Gives (λ x. (tree_of x, state_of I.state p.new)) (spec.bound (stream_of I.machine) (state_of I.state p.new)) result (reads.yield_by (stream_of I.machine) (N.reads nested.now I.State I.machine) (code_of code) (state_of I.state p.old)) }
-    ensures shorter { Falls result (spec.bound (stream_of I.machine) (state_of I.state p.new)) (spec.bound (stream_of I.machine) (state_of I.state p.old)) }
+    ensures value { ReadsBy I.machine I.state (N.reads nested.now) p.old p.new result
+        tree_of (λ m r. reads.yield_by m r (code_of code)) }
+    ensures shorter { Shorter I.machine I.state p.old p.new result }
 {
     let start = p.lo();
     p.eat_word(code, kinds::YIELD)?;

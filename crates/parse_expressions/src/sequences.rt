@@ -18,12 +18,14 @@ use std::alloc::Global;
 use tree_nodes::{Expr, ExprBox, ExprKind, SeqExpr};
 
 /// A sequence, apart from other expressions.
+// For the proof: a function of its own, whose clauses say what a match on all kinds comes to.
 fn as_seq(kind: ExprKind) -> Result<SeqExpr, ExprKind>
     requires { fits_expr_kind (λ p. p) kind }
     ensures seq { IfOk result (λ x. view_expr_kind inner kind ≡ view_seq_expr inner x) }
     ensures holds { IfOk result (λ x. All (λ e. holds_expr e.part.value) x.exprs.items) }
     ensures other { IfErr result (λ k. k ≡ kind) }
-    ensures apart { IfErr result (λ k. (t : Tree) (n : Span) → extended (view_expr_kind inner k) t n ≡ seq_expr n (more (view_expr_kind inner k) (more t none))) }
+    ensures apart { IfErr result (λ k. (t : Tree) (n : Span) → extended (view_expr_kind inner k) t n
+        ≡ seq_expr n (more (view_expr_kind inner k) (more t none))) }
 {
     match kind {
         ExprKind::Seq(node) => Ok(node),
@@ -52,7 +54,8 @@ fn more_seq(alloc: Global, span: Span, node: SeqExpr, right: Operand) -> Result<
 /// A sequence of two expressions.
 fn two_seq(alloc: Global, span: Span, kind: ExprKind, right: Operand) -> Result<Operand, Failure>
     requires { fits_expr_kind (λ p. p) kind }
-    ensures value { IfOk result (λ o. tree_of o ≡ seq_expr span (more (view_expr_kind inner kind) (more (tree_of right) none))) }
+    ensures value { IfOk result (λ o. tree_of o
+        ≡ seq_expr span (more (view_expr_kind inner kind) (more (tree_of right) none))) }
     ensures full { IfErr result IsMemory }
 {
     let end = right.end;

@@ -7,13 +7,15 @@ ghost use Rattle.tree_nodes.specs.Placed.{inner};
 ghost use Rattle.tree_nodes.specs.View.{view_tpl, view_tpl_element};
 ghost use Rattle.grammar_spec.specs.Reader.Source as spec;
 ghost use Rattle.grammar_spec.specs.Reader.Expressions as reads;
-ghost use Rattle.parse_state.specs.Answers.{Falls, Gives, going_on, IsMemory};
+ghost use Rattle.parse_state.specs.Answers.{going_on, IsMemory};
 ghost use Rattle.tree_spec.specs.Tree.{pack, tpl};
 ghost use Rattle.parse_state.specs.Codes.{code_of};
 ghost use Rattle.parse_state.specs.Cursors.{stream_of};
-ghost use Rattle.parse_state.specs.States.{from, state_of};
+ghost use Rattle.parse_state.specs.States.{from};
+ghost use Rattle.parse_state.specs.Reads.{at_hand, Passes, Shorter};
 ghost use Rattle.parse_operands.specs.Lists.{spans_of, FitSpans};
 ghost use Rattle.parse_operands.specs.Operands.{tree_of};
+ghost use Rattle.parse_operands.specs.Rules.{ReadsBy};
 ghost use Rattle.parse_expressions.specs.Pieces.{element_at, spans_by};
 ghost use Rattle.parse_expressions.specs.Steps.{tagged_by};
 
@@ -30,7 +32,8 @@ use tree_nodes::{Tpl, TplElement};
 fn add(spans: &mut Spans, element: TplElement, read: Operand) -> Result<(), Failure>
     requires fits { FitSpans spans.old }
     ensures exprs { IfOk result (λ _. (spans_of spans.new).exprs ≡ (spans_of spans.old).exprs ++ tree_of read ∷ []) }
-    ensures quasis { IfOk result (λ _. (spans_of spans.new).quasis ≡ (spans_of spans.old).quasis ++ view_tpl_element element ∷ []) }
+    ensures quasis { IfOk result (λ _. (spans_of spans.new).quasis ≡ (spans_of spans.old).quasis
+        ++ view_tpl_element element ∷ []) }
     ensures fits { IfOk result (λ _. FitSpans spans.new) }
     ensures full { IfErr result IsMemory }
 {
@@ -53,9 +56,11 @@ pub fn characters_end<'a, I: Tokens<'a> + Drop, N: Nested<'a, I>>(
     requires ready { N.ready nested.now }
     requires fits { FitSpans spans.old }
     requires tail { element.tail ≡ false }
-    ensures value { Gives (λ x. (going_on x (spans_of spans.new), state_of I.state p.new)) (spec.bound (stream_of I.machine) (state_of I.state p.new)) result (reads.quasi_end (stream_of I.machine) (N.reads nested.now I.State I.machine) (code_of code) tagged (spans_of spans.old) (element_at element) (state_of I.state p.old)) }
+    ensures value { ReadsBy I.machine I.state (N.reads nested.now) p.old p.new result
+        (λ x. going_on x (spans_of spans.new))
+        (λ m r. reads.quasi_end m r (code_of code) tagged (spans_of spans.old) (element_at element)) }
     ensures fits { IfOk result (λ _. FitSpans spans.new) }
-    ensures shorter { Falls result (spec.bound (stream_of I.machine) (state_of I.state p.new)) (spec.bound (stream_of I.machine) (state_of I.state p.old)) }
+    ensures shorter { Shorter I.machine I.state p.old p.new result }
 {
     let mut element = element;
     let fits = tagged || element.cooked.is_some();
@@ -84,10 +89,13 @@ fn quasi<'a, I: Tokens<'a> + Drop, N: Nested<'a, I>>(
     p: &mut Parser<'a, I>,
     _nested: &N,
 ) -> Result<TplElement, Failure>
-    ensures value { Gives (λ _. state_of I.state p.new) (spec.bound (stream_of I.machine) (state_of I.state p.new)) result (spec.eat (stream_of I.machine) template_kind (state_of I.state p.old)) }
-    ensures element { IfOk result (λ x. element_at x ≡ reads.quasi (stream_of I.machine) (N.reads _nested.now I.State I.machine) (content (spec.input (stream_of I.machine) (state_of I.state p.old))) (first_span (spec.input (stream_of I.machine) (state_of I.state p.old)))) }
+    ensures value { Passes I.machine I.state p.old p.new result (λ m. spec.eat m template_kind) }
+    ensures element { IfOk result (λ x. element_at x
+        ≡ reads.quasi (stream_of I.machine) (N.reads _nested.now I.State I.machine)
+        (content (at_hand I.machine I.state p.old))
+        (first_span (at_hand I.machine I.state p.old))) }
     ensures tail { IfOk result (λ x. x.tail ≡ false) }
-    ensures shorter { Falls result (spec.bound (stream_of I.machine) (state_of I.state p.new)) (spec.bound (stream_of I.machine) (state_of I.state p.old)) }
+    ensures shorter { Shorter I.machine I.state p.old p.new result }
 {
     let span = p.place();
     let fault = p.unexpected();
@@ -115,9 +123,11 @@ pub fn characters<'a, I: Tokens<'a> + Drop, N: Nested<'a, I>>(
 ) -> Result<bool, Failure>
     requires ready { N.ready nested.now }
     requires fits { FitSpans spans.old }
-    ensures value { Gives (λ x. (going_on x (spans_of spans.new), state_of I.state p.new)) (spec.bound (stream_of I.machine) (state_of I.state p.new)) result (reads.quasi_step (stream_of I.machine) (N.reads nested.now I.State I.machine) (code_of code) tagged (spans_of spans.old) (state_of I.state p.old)) }
+    ensures value { ReadsBy I.machine I.state (N.reads nested.now) p.old p.new result
+        (λ x. going_on x (spans_of spans.new))
+        (λ m r. reads.quasi_step m r (code_of code) tagged (spans_of spans.old)) }
     ensures fits { IfOk result (λ _. FitSpans spans.new) }
-    ensures shorter { Falls result (spec.bound (stream_of I.machine) (state_of I.state p.new)) (spec.bound (stream_of I.machine) (state_of I.state p.old)) }
+    ensures shorter { Shorter I.machine I.state p.old p.new result }
 {
     let element = quasi(p, nested)?;
     characters_end(p, nested, code, tagged, element, spans)
@@ -133,9 +143,10 @@ pub fn spans<'a, I: Tokens<'a> + Drop, N: Nested<'a, I>>(
     tagged: bool,
 ) -> Result<Spans, Failure>
     requires ready { N.ready nested.now }
-    ensures value { Gives (λ x. (spans_of x, state_of I.state p.new)) (spec.bound (stream_of I.machine) (state_of I.state p.new)) result (spans_by (stream_of I.machine) (N.reads nested.now I.State I.machine) (code_of code) tagged (state_of I.state p.old)) }
+    ensures value { ReadsBy I.machine I.state (N.reads nested.now) p.old p.new result
+        spans_of (λ m r. spans_by m r (code_of code) tagged) }
     ensures fits { IfOk result (λ x. FitSpans x) }
-    ensures shorter { Falls result (spec.bound (stream_of I.machine) (state_of I.state p.new)) (spec.bound (stream_of I.machine) (state_of I.state p.old)) }
+    ensures shorter { Shorter I.machine I.state p.old p.new result }
 {
     let mut spans = Spans {
         exprs: Vec::new(p.alloc),
@@ -149,7 +160,8 @@ pub fn spans<'a, I: Tokens<'a> + Drop, N: Nested<'a, I>>(
 #[tactic(auto, using(parse_operands::proofs::Packs::packs))]
 fn template_of(alloc: Global, span: Span, read: Spans) -> Result<Box<Tpl>, Failure>
     requires { FitSpans read }
-    ensures value { IfOk result (λ x. view_tpl inner x.value ≡ tpl span (pack (spans_of read).exprs) (pack (spans_of read).quasis)) }
+    ensures value { IfOk result (λ x. view_tpl inner x.value
+        ≡ tpl span (pack (spans_of read).exprs) (pack (spans_of read).quasis)) }
     ensures fits { IfOk result (λ x. fits_tpl (λ p. p) x.value) }
     ensures full { IfErr result IsMemory }
 {
@@ -171,9 +183,10 @@ pub fn template<'a, I: Tokens<'a> + Drop, N: Nested<'a, I>>(
     tagged: bool,
 ) -> Result<Box<Tpl>, Failure>
     requires ready { N.ready nested.now }
-    ensures value { Gives (λ x. (view_tpl inner x.value, state_of I.state p.new)) (spec.bound (stream_of I.machine) (state_of I.state p.new)) result (reads.template_by (stream_of I.machine) (N.reads nested.now I.State I.machine) (code_of code) tagged (state_of I.state p.old)) }
+    ensures value { ReadsBy I.machine I.state (N.reads nested.now) p.old p.new result
+        (λ x. view_tpl inner x.value) (λ m r. reads.template_by m r (code_of code) tagged) }
     ensures fits { IfOk result (λ x. fits_tpl (λ p. p) x.value) }
-    ensures shorter { Falls result (spec.bound (stream_of I.machine) (state_of I.state p.new)) (spec.bound (stream_of I.machine) (state_of I.state p.old)) }
+    ensures shorter { Shorter I.machine I.state p.old p.new result }
 {
     let start = p.lo();
     p.bump()?;
@@ -192,8 +205,9 @@ pub fn tagged<'a, I: Tokens<'a> + Drop, N: Nested<'a, I>>(
     tag: Operand,
 ) -> Result<Operand, Failure>
     requires ready { N.ready nested.now }
-    ensures value { Gives (λ x. (tree_of x, state_of I.state p.new)) (spec.bound (stream_of I.machine) (state_of I.state p.new)) result (tagged_by (stream_of I.machine) (N.reads nested.now I.State I.machine) (code_of code) (from start.0) (tree_of tag) (state_of I.state p.old)) }
-    ensures shorter { Falls result (spec.bound (stream_of I.machine) (state_of I.state p.new)) (spec.bound (stream_of I.machine) (state_of I.state p.old)) }
+    ensures value { ReadsBy I.machine I.state (N.reads nested.now) p.old p.new result
+        tree_of (λ m r. tagged_by m r (code_of code) (from start.0) (tree_of tag)) }
+    ensures shorter { Shorter I.machine I.state p.old p.new result }
 {
     let tpl = template(p, nested, code, true)?;
     made::tagged_tpl(p.alloc, p.since(start), tag, tpl)

@@ -6,14 +6,14 @@ ghost use Rattle.grammar_spec.specs.Tokens.Input.{kind, kind2, lo};
 ghost use Rattle.tree_nodes.specs.Fits.{fits_expr_or_spread, fits_member_prop};
 ghost use Rattle.tree_nodes.specs.Placed.{holds_expr, inner};
 ghost use Rattle.tree_nodes.specs.View.{unary_op_word, update_op_word, view_computed_prop_name, view_expr_or_spread, view_member_prop, view_private_name};
-ghost use Rattle.grammar_spec.specs.Reader.Source as spec;
 ghost use Rattle.grammar_spec.specs.Reader.Expressions as reads;
-ghost use Rattle.parse_state.specs.Answers.{Falls, Gives, IsSyntax, Stays, going_on};
+ghost use Rattle.parse_state.specs.Answers.{IsSyntax, going_on};
 ghost use Rattle.parse_state.specs.Codes.{code_of};
-ghost use Rattle.parse_state.specs.Cursors.{stream_of};
-ghost use Rattle.parse_state.specs.States.{from, from_span, state_of};
+ghost use Rattle.parse_state.specs.States.{from, from_span};
+ghost use Rattle.parse_state.specs.Reads.{at_hand, to_come, ReadsAs, Shorter, NotLonger};
 ghost use Rattle.parse_operands.specs.Lists.{arguments_of, elements_of, FitArguments, FitElements};
 ghost use Rattle.parse_operands.specs.Operands.{tree_of};
+ghost use Rattle.parse_operands.specs.Rules.{ReadsBy};
 ghost use Rattle.parse_expressions.specs.Steps.{postfix_by, question_by, sequence_by};
 
 use crate::operators::{assignment, binary, call, chain, conditional, index, member};
@@ -37,8 +37,9 @@ pub fn sequence<'a, I: Tokens<'a> + Drop, N: Nested<'a, I>>(
     left: Operand,
 ) -> Result<Operand, Failure>
     requires ready { N.ready nested.now }
-    ensures value { Gives (λ x. (tree_of x, state_of I.state p.new)) (spec.bound (stream_of I.machine) (state_of I.state p.new)) result (sequence_by (stream_of I.machine) (N.reads nested.now I.State I.machine) (code_of code) (from start.0) (tree_of left) (state_of I.state p.old)) }
-    ensures shorter { Falls result (spec.bound (stream_of I.machine) (state_of I.state p.new)) (spec.bound (stream_of I.machine) (state_of I.state p.old)) }
+    ensures value { ReadsBy I.machine I.state (N.reads nested.now) p.old p.new result
+        tree_of (λ m r. sequence_by m r (code_of code) (from start.0) (tree_of left)) }
+    ensures shorter { Shorter I.machine I.state p.old p.new result }
 {
     let left = Held { value: left };
     p.bump()?;
@@ -57,9 +58,10 @@ pub fn question<'a, I: Tokens<'a> + Drop, N: Nested<'a, I>>(
     left: Operand,
 ) -> Result<Operand, Failure>
     requires ready { N.ready nested.now }
-    requires mark { kind (spec.input (stream_of I.machine) (state_of I.state p.old)) ≡ question_mark_kind }
-    ensures value { Gives (λ x. (tree_of x, state_of I.state p.new)) (spec.bound (stream_of I.machine) (state_of I.state p.new)) result (question_by (stream_of I.machine) (N.reads nested.now I.State I.machine) (code_of code) (from start.0) (tree_of left) (state_of I.state p.old)) }
-    ensures shorter { Falls result (spec.bound (stream_of I.machine) (state_of I.state p.new)) (spec.bound (stream_of I.machine) (state_of I.state p.old)) }
+    requires mark { kind (at_hand I.machine I.state p.old) ≡ question_mark_kind }
+    ensures value { ReadsBy I.machine I.state (N.reads nested.now) p.old p.new result
+        tree_of (λ m r. question_by m r (code_of code) (from start.0) (tree_of left)) }
+    ensures shorter { Shorter I.machine I.state p.old p.new result }
 {
     let left = Held { value: left };
     let (second, _) = p.second()?;
@@ -86,10 +88,11 @@ pub fn postfix<'a, I: Tokens<'a> + Drop>(
     op: UpdateOp,
     left: Operand,
 ) -> Result<Operand, Failure>
-    requires mark { update_op_word op ≡ kind (spec.input (stream_of I.machine) (state_of I.state p.old)) }
-    requires some { kind (spec.input (stream_of I.machine) (state_of I.state p.old)) ≢ 0 }
-    ensures value { Gives (λ x. (tree_of x, state_of I.state p.new)) (spec.bound (stream_of I.machine) (state_of I.state p.new)) result (postfix_by (stream_of I.machine) (from start.0) (tree_of left) (state_of I.state p.old)) }
-    ensures shorter { Falls result (spec.bound (stream_of I.machine) (state_of I.state p.new)) (spec.bound (stream_of I.machine) (state_of I.state p.old)) }
+    requires mark { update_op_word op ≡ kind (at_hand I.machine I.state p.old) }
+    requires some { kind (at_hand I.machine I.state p.old) ≢ 0 }
+    ensures value { ReadsAs I.machine I.state p.old p.new result
+        tree_of (λ m. postfix_by m (from start.0) (tree_of left)) }
+    ensures shorter { Shorter I.machine I.state p.old p.new result }
 {
     if left.level < NEW_LEVEL {
         return Err(p.unexpected());
@@ -120,8 +123,9 @@ pub fn step<'a, I: Tokens<'a> + Drop, N: Nested<'a, I>>(
     left: Operand,
 ) -> Result<Operand, Failure>
     requires ready { N.ready nested.now }
-    ensures value { Gives (λ x. (tree_of x, state_of I.state p.new)) (spec.bound (stream_of I.machine) (state_of I.state p.new)) result (reads.step_by (stream_of I.machine) (N.reads nested.now I.State I.machine) (code_of code) (from start.0) (tree_of left) (state_of I.state p.old)) }
-    ensures shorter { Falls result (spec.bound (stream_of I.machine) (state_of I.state p.new)) (spec.bound (stream_of I.machine) (state_of I.state p.old)) }
+    ensures value { ReadsBy I.machine I.state (N.reads nested.now) p.old p.new result
+        tree_of (λ m r. reads.step_by m r (code_of code) (from start.0) (tree_of left)) }
+    ensures shorter { Shorter I.machine I.state p.old p.new result }
 {
     let kind = p.kind();
     if kind == kinds::END {
@@ -169,9 +173,12 @@ pub fn turn<'a, I: Tokens<'a> + Drop, N: Nested<'a, I>>(
     left: Operand,
 ) -> Result<(bool, Operand), Failure>
     requires ready { N.ready nested.now }
-    ensures value { Gives (λ x. (going_on x.0 (tree_of x.1), state_of I.state p.new)) (spec.bound (stream_of I.machine) (state_of I.state p.new)) result (reads.loop_step (stream_of I.machine) (N.reads nested.now I.State I.machine) (code_of code) least (from start.0) (tree_of left) (state_of I.state p.old)) }
-    ensures shorter { IfOk result (λ x. IsTrue x.0 → spec.bound (stream_of I.machine) (state_of I.state p.new) < spec.bound (stream_of I.machine) (state_of I.state p.old)) }
-    ensures not_longer { Stays result (spec.bound (stream_of I.machine) (state_of I.state p.new)) (spec.bound (stream_of I.machine) (state_of I.state p.old)) }
+    ensures value { ReadsBy I.machine I.state (N.reads nested.now) p.old p.new result
+        (λ x. going_on x.0 (tree_of x.1))
+        (λ m r. reads.loop_step m r (code_of code) least (from start.0) (tree_of left)) }
+    ensures shorter { IfOk result (λ x. IsTrue x.0 → to_come I.machine I.state p.new
+        < to_come I.machine I.state p.old) }
+    ensures not_longer { NotLonger I.machine I.state p.old p.new result }
 {
     let left = Held { value: left };
     let level = p.goes(code, left.value.end)?;
@@ -194,8 +201,9 @@ pub fn operators<'a, I: Tokens<'a> + Drop, N: Nested<'a, I>>(
     first: Operand,
 ) -> Result<Operand, Failure>
     requires ready { N.ready nested.now }
-    ensures value { Gives (λ x. (tree_of x, state_of I.state p.new)) (spec.bound (stream_of I.machine) (state_of I.state p.new)) result (reads.loop_by (stream_of I.machine) (N.reads nested.now I.State I.machine) (code_of code) least (from start.0) (tree_of first) (state_of I.state p.old)) }
-    ensures not_longer { Stays result (spec.bound (stream_of I.machine) (state_of I.state p.new)) (spec.bound (stream_of I.machine) (state_of I.state p.old)) }
+    ensures value { ReadsBy I.machine I.state (N.reads nested.now) p.old p.new result
+        tree_of (λ m r. reads.loop_by m r (code_of code) least (from start.0) (tree_of first)) }
+    ensures not_longer { NotLonger I.machine I.state p.old p.new result }
 {
     if first.level < least {
         if first.level == NEW_LEVEL && least == MEMBER {

@@ -5,3 +5,5 @@ pub mod Exact
 pub mod Stops
 pub mod Sources
 pub mod SourceFronts
+pub use Rattle.parse_alone.specs.Parts
+pub use Rattle.parse_alone.specs.Items

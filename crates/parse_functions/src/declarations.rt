@@ -1,12 +1,12 @@
 //! Declarations of functions.
 ghost use Rattle.std.specs.Prelude.{IfOk};
-ghost use Rattle.tree_nodes.specs.Placed.{holds_stmt, inner};
-ghost use Rattle.grammar_spec.specs.Reader.Source as spec;
+ghost use Rattle.tree_nodes.specs.Placed.{holds_stmt};
 ghost use Rattle.grammar_spec.specs.Reader.Statements as reads;
-ghost use Rattle.parse_state.specs.Answers.{Falls, Gives};
 ghost use Rattle.parse_state.specs.Codes.{code_of};
-ghost use Rattle.parse_state.specs.Cursors.{stream_of};
-ghost use Rattle.parse_state.specs.States.{from, state_of};
+ghost use Rattle.parse_state.specs.States.{from};
+ghost use Rattle.parse_state.specs.Reads.{Shorter};
+ghost use Rattle.parse_operands.specs.Rules.{ReadsBy};
+ghost use Rattle.parse_operands.specs.Operands.{tree_in};
 
 use crate::functions::function;
 use crate::heads::star;
@@ -27,9 +27,10 @@ pub fn function_decl<'a, I: Tokens<'a> + Drop, N: Nested<'a, I>>(
     is_async: bool,
 ) -> Result<StmtBox, Failure>
     requires ready { N.ready nested.now }
-    ensures value { Gives (λ x. (inner x.part.value, state_of I.state p.new)) (spec.bound (stream_of I.machine) (state_of I.state p.new)) result (reads.function_decl_by (stream_of I.machine) (N.reads nested.now I.State I.machine) (code_of code) (from start.0) is_async (state_of I.state p.old)) }
+    ensures value { ReadsBy I.machine I.state (N.reads nested.now) p.old p.new result
+        tree_in (λ m r. reads.function_decl_by m r (code_of code) (from start.0) is_async) }
     ensures holds { IfOk result (λ x. holds_stmt x.part.value) }
-    ensures shorter { Falls result (spec.bound (stream_of I.machine) (state_of I.state p.new)) (spec.bound (stream_of I.machine) (state_of I.state p.old)) }
+    ensures shorter { Shorter I.machine I.state p.old p.new result }
 {
     p.eat_word(code, kinds::FUNCTION)?;
     let generator = star(p, nested)?;

@@ -6,10 +6,11 @@ ghost use Rattle.tree_nodes.specs.Placed.{inner};
 ghost use Rattle.tree_nodes.specs.View.{view_function, view_param};
 ghost use Rattle.grammar_spec.specs.Reader.Source as spec;
 ghost use Rattle.grammar_spec.specs.Reader.Expressions as reads;
-ghost use Rattle.parse_state.specs.Answers.{Falls, Gives, going_on, IsSyntax};
+ghost use Rattle.parse_state.specs.Answers.{going_on, IsSyntax};
 ghost use Rattle.parse_state.specs.Codes.{code_of};
 ghost use Rattle.parse_state.specs.Cursors.{stream_of};
-ghost use Rattle.parse_state.specs.States.{state_of};
+ghost use Rattle.parse_state.specs.Reads.{Passes, Shorter};
+ghost use Rattle.parse_operands.specs.Rules.{ReadsBy};
 
 use crate::made;
 use base_token::{BytePos, Error, Span, SyntaxError};
@@ -28,9 +29,10 @@ pub fn parameter<'a, I: Tokens<'a> + Drop, N: Nested<'a, I>>(
     code: Around,
 ) -> Result<Param, Failure>
     requires ready { N.ready nested.now }
-    ensures value { Gives (λ x. (view_param inner x, state_of I.state p.new)) (spec.bound (stream_of I.machine) (state_of I.state p.new)) result (reads.parameter_by (stream_of I.machine) (N.reads nested.now I.State I.machine) (code_of code) (state_of I.state p.old)) }
+    ensures value { ReadsBy I.machine I.state (N.reads nested.now) p.old p.new result
+        (view_param inner) (λ m r. reads.parameter_by m r (code_of code)) }
     ensures fits { IfOk result (λ x. fits_param (λ p. p) x) }
-    ensures shorter { Falls result (spec.bound (stream_of I.machine) (state_of I.state p.new)) (spec.bound (stream_of I.machine) (state_of I.state p.old)) }
+    ensures shorter { Shorter I.machine I.state p.old p.new result }
 {
     let start = p.lo();
     if p.eat(kinds::DOT_DOT_DOT)? {
@@ -53,7 +55,8 @@ pub fn is_rest<'a, I: Tokens<'a> + Drop, N: Nested<'a, I>>(
     param: &Param,
 ) -> bool
     requires { fits_param (λ p. p) param.now }
-    ensures { result ≡ reads.is_rest_param (stream_of I.machine) (N.reads _nested.now I.State I.machine) (view_param inner param.now) }
+    ensures { result ≡ reads.is_rest_param (stream_of I.machine)
+        (N.reads _nested.now I.State I.machine) (view_param inner param.now) }
 {
     matches!(&param.pat.get().kind, PatKind::Rest(_))
 }
@@ -69,9 +72,11 @@ pub fn parameter_turn<'a, I: Tokens<'a> + Drop, N: Nested<'a, I>>(
 ) -> Result<bool, Failure>
     requires ready { N.ready nested.now }
     requires fits { All (λ x. fits_param (λ p. p) x) params.old.items }
-    ensures value { Gives (λ x. (going_on x (map (view_param inner) params.new.items), state_of I.state p.new)) (spec.bound (stream_of I.machine) (state_of I.state p.new)) result (reads.parameter_step (stream_of I.machine) (N.reads nested.now I.State I.machine) (code_of code) (map (view_param inner) params.old.items) (state_of I.state p.old)) }
+    ensures value { ReadsBy I.machine I.state (N.reads nested.now) p.old p.new result
+        (λ x. going_on x (map (view_param inner) params.new.items))
+        (λ m r. reads.parameter_step m r (code_of code) (map (view_param inner) params.old.items)) }
     ensures fits { IfOk result (λ _. All (λ x. fits_param (λ p. p) x) params.new.items) }
-    ensures shorter { Falls result (spec.bound (stream_of I.machine) (state_of I.state p.new)) (spec.bound (stream_of I.machine) (state_of I.state p.old)) }
+    ensures shorter { Shorter I.machine I.state p.old p.new result }
 {
     if p.eat(kinds::RIGHT_PAREN)? {
         return Ok(false);
@@ -95,9 +100,10 @@ pub fn parameters<'a, I: Tokens<'a> + Drop, N: Nested<'a, I>>(
     code: Around,
 ) -> Result<Vec<Param>, Failure>
     requires ready { N.ready nested.now }
-    ensures value { Gives (λ x. (map (view_param inner) x.items, state_of I.state p.new)) (spec.bound (stream_of I.machine) (state_of I.state p.new)) result (reads.parameters_by (stream_of I.machine) (N.reads nested.now I.State I.machine) (code_of code) (state_of I.state p.old)) }
+    ensures value { ReadsBy I.machine I.state (N.reads nested.now) p.old p.new result
+        (λ x. map (view_param inner) x.items) (λ m r. reads.parameters_by m r (code_of code)) }
     ensures fits { IfOk result (λ x. All (λ x. fits_param (λ p. p) x) x.items) }
-    ensures shorter { Falls result (spec.bound (stream_of I.machine) (state_of I.state p.new)) (spec.bound (stream_of I.machine) (state_of I.state p.old)) }
+    ensures shorter { Shorter I.machine I.state p.old p.new result }
 {
     p.expect(kinds::LEFT_PAREN)?;
     let mut params = Vec::new(p.alloc);
@@ -117,9 +123,11 @@ pub fn function<'a, I: Tokens<'a> + Drop, N: Nested<'a, I>>(
     is_async: bool,
 ) -> Result<Box<Function>, Failure>
     requires ready { N.ready nested.now }
-    ensures value { Gives (λ x. (view_function inner x.value, state_of I.state p.new)) (spec.bound (stream_of I.machine) (state_of I.state p.new)) result (reads.function_by (stream_of I.machine) (N.reads nested.now I.State I.machine) (code_of code) whole.0 generator is_async (state_of I.state p.old)) }
+    ensures value { ReadsBy I.machine I.state (N.reads nested.now) p.old p.new result
+        (λ x. view_function inner x.value)
+        (λ m r. reads.function_by m r (code_of code) whole.0 generator is_async) }
     ensures fits { IfOk result (λ x. fits_function (λ p. p) x.value) }
-    ensures shorter { Falls result (spec.bound (stream_of I.machine) (state_of I.state p.new)) (spec.bound (stream_of I.machine) (state_of I.state p.old)) }
+    ensures shorter { Shorter I.machine I.state p.old p.new result }
 {
     let inside = in_body(generator, is_async, code);
     let params = parameters(p, nested, inside)?;
@@ -144,8 +152,8 @@ pub fn close_parameters<'a, I: Tokens<'a> + Drop>(
     p: &mut Parser<'a, I>,
     kind: SyntaxError,
 ) -> Result<(), Failure>
-    ensures value { Gives (λ _. state_of I.state p.new) (spec.bound (stream_of I.machine) (state_of I.state p.new)) result (spec.eat (stream_of I.machine) right_paren_kind (state_of I.state p.old)) }
-    ensures shorter { Falls result (spec.bound (stream_of I.machine) (state_of I.state p.new)) (spec.bound (stream_of I.machine) (state_of I.state p.old)) }
+    ensures value { Passes I.machine I.state p.old p.new result (λ m. spec.eat m right_paren_kind) }
+    ensures shorter { Shorter I.machine I.state p.old p.new result }
 {
     if p.eat(kinds::RIGHT_PAREN)? {
         return Ok(());
@@ -171,9 +179,10 @@ pub fn setter_parameter<'a, I: Tokens<'a> + Drop, N: Nested<'a, I>>(
     code: Around,
 ) -> Result<Param, Failure>
     requires ready { N.ready nested.now }
-    ensures value { Gives (λ x. (view_param inner x, state_of I.state p.new)) (spec.bound (stream_of I.machine) (state_of I.state p.new)) result (reads.setter_parameter (stream_of I.machine) (N.reads nested.now I.State I.machine) (code_of code) (state_of I.state p.old)) }
+    ensures value { ReadsBy I.machine I.state (N.reads nested.now) p.old p.new result
+        (view_param inner) (λ m r. reads.setter_parameter m r (code_of code)) }
     ensures fits { IfOk result (λ x. fits_param (λ p. p) x) }
-    ensures shorter { Falls result (spec.bound (stream_of I.machine) (state_of I.state p.new)) (spec.bound (stream_of I.machine) (state_of I.state p.old)) }
+    ensures shorter { Shorter I.machine I.state p.old p.new result }
 {
     p.expect(kinds::LEFT_PAREN)?;
     let place = p.place();

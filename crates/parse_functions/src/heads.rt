@@ -1,10 +1,11 @@
 //! What tells an accessor and an `async` method from a key: the token behind the word.
 ghost use Rattle.std.specs.Prelude.{◌≡◌, ◌<◌, IfErr, IfOk};
-ghost use Rattle.grammar_spec.specs.Reader.Source as spec;
 ghost use Rattle.grammar_spec.specs.Reader.Expressions as reads;
-ghost use Rattle.parse_state.specs.Answers.{Gives, IsMemory, Stays};
+ghost use Rattle.parse_state.specs.Answers.{IsMemory};
 ghost use Rattle.parse_state.specs.Cursors.{stream_of};
 ghost use Rattle.parse_state.specs.States.{state_of};
+ghost use Rattle.parse_state.specs.Reads.{NotLonger};
+ghost use Rattle.parse_operands.specs.Rules.{ReadsBy};
 
 use parse_operands::Nested;
 use parse_state::operators::starts_key;
@@ -21,7 +22,8 @@ pub fn is_accessor<'a, I: Tokens<'a> + Drop, N: Nested<'a, I>>(
     kind: u8,
 ) -> Result<bool, Failure>
     requires { 0 < kind }
-    ensures value { IfOk result (λ b. b ≡ reads.is_accessor (stream_of I.machine) (N.reads _nested.now I.State I.machine) kind (state_of I.state p.now)) }
+    ensures value { IfOk result (λ b. b ≡ reads.is_accessor (stream_of I.machine)
+        (N.reads _nested.now I.State I.machine) kind (state_of I.state p.now)) }
     ensures full { IfErr result IsMemory }
 {
     if !p.at(kind) {
@@ -40,7 +42,8 @@ pub fn is_async_head<'a, I: Tokens<'a> + Drop, N: Nested<'a, I>>(
     p: &Parser<'a, I>,
     _nested: &N,
 ) -> Result<bool, Failure>
-    ensures value { IfOk result (λ b. b ≡ reads.is_async_head (stream_of I.machine) (N.reads _nested.now I.State I.machine) (state_of I.state p.now)) }
+    ensures value { IfOk result (λ b. b ≡ reads.is_async_head (stream_of I.machine)
+        (N.reads _nested.now I.State I.machine) (state_of I.state p.now)) }
     ensures full { IfErr result IsMemory }
 {
     if !p.at(kinds::ASYNC) {
@@ -60,8 +63,9 @@ pub fn star<'a, I: Tokens<'a> + Drop, N: Nested<'a, I>>(
     p: &mut Parser<'a, I>,
     _nested: &N,
 ) -> Result<bool, Failure>
-    ensures value { Gives (λ b. (b, state_of I.state p.new)) (spec.bound (stream_of I.machine) (state_of I.state p.new)) result (reads.star (stream_of I.machine) (N.reads _nested.now I.State I.machine) (state_of I.state p.old)) }
-    ensures not_longer { Stays result (spec.bound (stream_of I.machine) (state_of I.state p.new)) (spec.bound (stream_of I.machine) (state_of I.state p.old)) }
+    ensures value { ReadsBy I.machine I.state (N.reads _nested.now) p.old p.new result
+        (λ b. b) (λ m r. reads.star m r) }
+    ensures not_longer { NotLonger I.machine I.state p.old p.new result }
 {
     p.eat(kinds::MUL)
 }

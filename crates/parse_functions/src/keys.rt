@@ -6,10 +6,11 @@ ghost use Rattle.tree_nodes.specs.Placed.{inner};
 ghost use Rattle.tree_nodes.specs.View.{view_prop_name};
 ghost use Rattle.grammar_spec.specs.Reader.Source as spec;
 ghost use Rattle.grammar_spec.specs.Reader.Expressions as reads;
-ghost use Rattle.parse_state.specs.Answers.{Falls, Gives};
 ghost use Rattle.parse_state.specs.Codes.{code_of};
 ghost use Rattle.parse_state.specs.Cursors.{stream_of};
 ghost use Rattle.parse_state.specs.States.{state_of};
+ghost use Rattle.parse_state.specs.Reads.{Shorter};
+ghost use Rattle.parse_operands.specs.Rules.{ReadsBy};
 
 use crate::made;
 use base_token::Token;
@@ -29,9 +30,10 @@ pub fn literal_key<'a, I: Tokens<'a> + Drop, N: Nested<'a, I>>(
 ) -> Result<PropName, Failure>
     requires ready { N.ready _nested.now }
     requires other { spec.at (stream_of I.machine) regex_kind (state_of I.state p.old) ≡ false }
-    ensures value { Gives (λ x. (view_prop_name inner x, state_of I.state p.new)) (spec.bound (stream_of I.machine) (state_of I.state p.new)) result (reads.literal_by (stream_of I.machine) (N.reads _nested.now I.State I.machine) (state_of I.state p.old)) }
+    ensures value { ReadsBy I.machine I.state (N.reads _nested.now) p.old p.new result
+        (view_prop_name inner) (λ m r. reads.literal_by m r) }
     ensures fits { IfOk result (λ x. fits_prop_name (λ p. p) x) }
-    ensures shorter { Falls result (spec.bound (stream_of I.machine) (state_of I.state p.new)) (spec.bound (stream_of I.machine) (state_of I.state p.old)) }
+    ensures shorter { Shorter I.machine I.state p.old p.new result }
 {
     let span = p.place();
     let fault = p.unexpected();
@@ -60,9 +62,10 @@ pub fn key<'a, I: Tokens<'a> + Drop, N: Nested<'a, I>>(
     code: Around,
 ) -> Result<PropName, Failure>
     requires ready { N.ready nested.now }
-    ensures value { Gives (λ x. (view_prop_name inner x, state_of I.state p.new)) (spec.bound (stream_of I.machine) (state_of I.state p.new)) result (reads.key_by (stream_of I.machine) (N.reads nested.now I.State I.machine) (code_of code) (state_of I.state p.old)) }
+    ensures value { ReadsBy I.machine I.state (N.reads nested.now) p.old p.new result
+        (view_prop_name inner) (λ m r. reads.key_by m r (code_of code)) }
     ensures fits { IfOk result (λ x. fits_prop_name (λ p. p) x) }
-    ensures shorter { Falls result (spec.bound (stream_of I.machine) (state_of I.state p.new)) (spec.bound (stream_of I.machine) (state_of I.state p.old)) }
+    ensures shorter { Shorter I.machine I.state p.old p.new result }
 {
     if p.at(kinds::LEFT_BRACKET) {
         return Ok(PropName::Computed(computed(p, nested, code, ASSIGNMENT)?));

@@ -94,7 +94,8 @@ pub fn default_param(
     right: Operand,
 ) -> Result<Param, Failure>
     requires { holds_pat left.part.value }
-    ensures value { IfOk result (λ x. view_param inner x ≡ param span none (assign_pat span (inner left.part.value) (tree_of right))) }
+    ensures value { IfOk result (λ x. view_param inner x
+        ≡ param span none (assign_pat span (inner left.part.value) (tree_of right))) }
     ensures fits { IfOk result (λ x. fits_param (λ p. p) x) }
     ensures full { IfErr result IsMemory }
 {
@@ -121,7 +122,8 @@ pub fn dots(start: BytePos) -> Span
 #[inline(never)]
 pub fn rest_param(alloc: Global, span: Span, dots: Span, arg: PatBox) -> Result<Param, Failure>
     requires { holds_pat arg.part.value }
-    ensures value { IfOk result (λ x. view_param inner x ≡ param span none (rest_pat span dots (inner arg.part.value))) }
+    ensures value { IfOk result (λ x. view_param inner x
+        ≡ param span none (rest_pat span dots (inner arg.part.value))) }
     ensures fits { IfOk result (λ x. fits_param (λ p. p) x) }
     ensures full { IfErr result IsMemory }
 {
@@ -146,7 +148,9 @@ pub fn function(
 ) -> Result<Box<Function>, Failure>
     requires params { All (λ x. fits_param (λ p. p) x) params.items }
     requires body { fits_block_stmt (λ p. p) body }
-    ensures value { IfOk result (λ x. view_function inner x.value ≡ function span (trees_by (view_param inner) params.items) none (view_block_stmt inner body) is_generator is_async) }
+    ensures value { IfOk result (λ x. view_function inner x.value
+        ≡ function span (trees_by (view_param inner) params.items) none (view_block_stmt inner body)
+        is_generator is_async) }
     ensures fits { IfOk result (λ x. fits_function (λ p. p) x.value) }
     ensures full { IfErr result IsMemory }
 {
@@ -170,7 +174,8 @@ pub fn fn_decl(
     function: Box<Function>,
 ) -> Result<StmtBox, Failure>
     requires { fits_function (λ p. p) function.value }
-    ensures value { IfOk result (λ x. inner x.part.value ≡ fn_decl span (view_ident ident) (view_function inner function.value)) }
+    ensures value { IfOk result (λ x. inner x.part.value
+        ≡ fn_decl span (view_ident ident) (view_function inner function.value)) }
     ensures holds { IfOk result (λ x. holds_stmt x.part.value) }
     ensures full { IfErr result IsMemory }
 {

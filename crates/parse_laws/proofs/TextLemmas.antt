@@ -15,13 +15,13 @@ use Rattle.grammar_text_spec.specs.Text.{Setting, Reads, TreeSpells, code_of, te
 use Rattle.parse_state.specs.Cursors.{told_of}
 use Rattle.parse_state.specs.declared.parser.Parser.{Parser}
 use Rattle.parse_lexer_laws.proofs.Hands.{new_at_start}
-use Rattle.parse_laws.specs.TextRead.{TextBy, TextSettled}
+use Rattle.parse_laws.specs.TextRead.{TextBy, TextSettled, ReadingSettled, read_text}
 use Rattle.parse_laws.proofs.TextReadLemmas.{texts_settled}
 use Rattle.ecma_parser.specs.Answers.{Parses, ReadsProgram}
 use Rattle.ecma_parser.specs.Entries.{limit_in}
 use Rattle.lex_other_sources.specs.declared.rewinding.Rewinding.{Rewinding}
 use Rattle.ecma_parser.specs.declared.entries.Entries.{Entries}
-use Rattle.parse_laws.specs.Texts.{TextsAnswered, NewAnswered, NewReading}
+use Rattle.parse_laws.specs.Texts.{TextsAnswered, NewAnswered, NewReading, NewOutcome}
 use Rattle.parse_laws.proofs.AnsweredLemmas.{Joins, new_answer, read_by, first_read, read_first, of_goal}
 
 pub text_joins : (x : Setting) (modules : Bool) (text : List ℕ) → Joins x (λ t. Reads modules x.syntax t text) (λ t. TreeSpells x modules t text)
@@ -55,11 +55,22 @@ chars_start state syntax text e u source = source ∙ ap (λ (n : ℕ). at_start
 pub new_answered : {I : Type 0} (state : I → State) {X : Type 0} (view : X → Tree) → NewAnswered state view
 new_answered state view modules syntax text e u h source left result recorded p = texts_answered state view modules syntax EsNext (chars text) e h (chars_start state syntax text e u source) left result recorded p
 
-pub new_reading : {I : Type 0} (state : I → State) {X : Type 0} (view : X → Tree) → NewReading state view
-new_reading state view modules syntax text e u h source left result recorded p =
+-- what is read from the start of a text on is settled by the text
+pub reading_settled : ReadingSettled
+unfolding read_text
+reading_settled limit modules syntax text = let x = parts_of syntax in let ctx = (code_of modules x).context in
+    texts_settled limit modules x text (told_of ctx (at_start_of syntax EsNext text_start text (text_start + bytes text))) (new_at_start syntax EsNext text_start modules text ctx (of_goal modules x))
+
+-- and so much is what a new parser answers
+pub new_outcome : {I : Type 0} (state : I → State) {X : Type 0} (view : X → Tree) → NewOutcome state view
+unfolding read_text
+new_outcome state view modules syntax text e u h source left result recorded p =
     let start : State = at_start_of syntax EsNext text_start (chars text) (text_start + bytes (chars text)) in
     let at : state e.reading.input.input ≡ start = chars_start state syntax text e u source in
-    let read : Result Tree Fault = first_read lexer_machine state modules e start in
-    read_by (TextBy modules (parts_of syntax) (chars text) (limit_in e)) view (parts_of syntax) [] recorded left result read (text_first state modules syntax EsNext (chars text) e).read
-    (subst (λ (z : State). ReadsProgram view (parts_of z.settings.syntax) left result read [] recorded) at
-    (subst (λ (r : Result Tree Fault). ReadsProgram view (parts_of (state e.reading.input.input).settings.syntax) left result r [] recorded) (read_first lexer_machine state modules e h start at) p))
+    subst (λ (z : State). ReadsProgram view (parts_of z.settings.syntax) left result (first_read lexer_machine state modules e start) [] recorded) at
+    (subst (λ (r : Result Tree Fault). ReadsProgram view (parts_of (state e.reading.input.input).settings.syntax) left result r [] recorded) (read_first lexer_machine state modules e h start at) p)
+
+pub new_reading : {I : Type 0} (state : I → State) {X : Type 0} (view : X → Tree) → NewReading state view
+new_reading state view modules syntax text e u h source left result recorded p =
+    read_by (TextBy modules (parts_of syntax) (chars text) (limit_in e)) view (parts_of syntax) [] recorded left result (read_text modules syntax (limit_in e) (chars text))
+    (reading_settled (limit_in e) modules syntax (chars text)).read (new_outcome state view modules syntax text e u h source left result recorded p)

@@ -10,3 +10,4 @@ pub mod Answered
 pub mod Texts
 pub mod Lists
 pub mod Chosen
+pub mod Parts

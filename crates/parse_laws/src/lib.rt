@@ -11,8 +11,8 @@ ghost use Rattle.parse_laws.specs.ListRead.{ListConstant, ListHands, ListsSettle
 ghost use Rattle.parse_laws.specs.Lists.{ListsAnswered, NewListAnswered};
 ghost use Rattle.parse_laws.specs.Parsed.{ProgramsJudged};
 ghost use Rattle.parse_laws.specs.Settled.{FirstSettled};
-ghost use Rattle.parse_laws.specs.TextRead.{TextsSettled};
-ghost use Rattle.parse_laws.specs.Texts.{NewAnswered, NewReading, TextsAnswered};
+ghost use Rattle.parse_laws.specs.TextRead.{ReadingSettled, TextsSettled};
+ghost use Rattle.parse_laws.specs.Texts.{NewAnswered, NewOutcome, NewReading, TextsAnswered};
 ghost use Rattle.base_token.specs.Tokens.{Spot};
 ghost use Rattle.lex_source.specs.Machine.{Source, Machine};
 ghost use Rattle.tree_spec.specs.Tree.{Tree};
@@ -20,6 +20,8 @@ ghost use Rattle.std.specs.Prelude.{Bool, List};
 
 use parse_lexer_laws::Tokened;
 use parse_source_laws::Sourced;
+
+pub mod parts;
 
 /// Law: a script or a module that is read of a source within a limit of nesting is the only one that
 /// derives tokens which the source hands out. Where a token is unexpected none is derived, and where
@@ -61,10 +63,11 @@ pub fn list_law()
 /// Law: a script or a module that is read within a limit of nesting, through a lexer that stands at the
 /// start of a text, reads the text, and no other tree does; a tree that reads the text within the limit is
 /// what is read. A token is unexpected only where no tree of any nesting reads the text, and reading is
-/// too deep only where each that does nests deeper.
+/// too deep only where each that does nests deeper. So is what reading the text comes to (`read_text`).
 #[tactic(auto)]
 pub fn text_law()
     ensures settled { TextsSettled }
+    ensures outcome { ReadingSettled }
 {}
 
 /// What a parser reads from, as a source of tokens: which of its states are good, and which are the same;
@@ -114,12 +117,15 @@ pub trait Lexed {
 /// another kind than want of memory and too deep is answered only where no tree of any nesting reads the
 /// text, too deep only where each that does nests deeper, and then no fault is recorded. So it is of a
 /// parser that `Entries::new` made, by what that promises. Of that `read_script` and `read_module` answer
-/// the only tree that reads the text, or a failure in the same way.
+/// the only tree that reads the text, or a failure in the same way; and that is what reading the text
+/// comes to, by its characters and the settings alone (`read_text`): too deep exactly where that is, and a
+/// fault exactly where a token is unexpected there, but for want of memory.
 #[tactic(auto)]
 pub fn texts_law<I: Lexed>()
     ensures answer { TextsAnswered I.state I.view }
     ensures made { NewAnswered I.state I.view }
     ensures reading { NewReading I.state I.view }
+    ensures outcome { NewOutcome I.state I.view }
 {}
 
 /// What a parser reads a list of tokens by, a `TokensInput` or a `Capturing` of one, with what stands behind

@@ -10,7 +10,7 @@ use Rattle.base_token.specs.declared.token.TokenKind.{TokenKind}
 use Rattle.lex_pieces.specs.Escapes.{IsDigits, IsEscape}
 use Rattle.lex_pieces.specs.Names.{IsNameChar, Spell}
 use Rattle.lex_pieces.specs.Places.{bytes}
-use Rattle.lex_pieces.specs.Punctuators.{Spelling, IsAmong, punctuators}
+use Rattle.lex_pieces.specs.Punctuators.{Spelling, IsAmong, IsPunctuator, punctuators}
 use Rattle.lex_literal.specs.Numbers.{Meaning, Number, BigInt}
 use Rattle.lex_literal.specs.declared.template.Ending.{Ending}
 use Rattle.lex_literal.specs.declared.template.Ending.TheVariants.{BackQuote, Substitution}
@@ -33,7 +33,7 @@ more c cs = length-append (encode_utf8 c) (encode_utf8_all cs) ∙ ap (λ (n : �
 tail_shorter : (c : ℕ) (cs : List ℕ) → 1 + bytes cs ≤ bytes (c ∷ cs)
 tail_shorter c cs = let a = more c cs in let b = len_utf8_bounds c in omega (arith, a, b.0)
 
-some_bytes : (cs : List ℕ) → (cs ≡ [] → ⊥) → 1 ≤ bytes cs
+pub some_bytes : (cs : List ℕ) → (cs ≡ [] → ⊥) → 1 ≤ bytes cs
 some_bytes [] n = absurd (n refl)
 some_bytes (c ∷ cs) n = let a = tail_shorter c cs in omega (arith, a)
 
@@ -79,6 +79,26 @@ marked end text name rest true h (inl k) m = absurd (m k)
 marked end text name rest true h (inr k) m = ne_eqb (place end text + bytes name) (place end rest) (λ z. omega (arith, z, h, k))
 marked end text name rest false h k m = let f : bytes text ≡ bytes (name ++ rest) = ap (λ (z : List ℕ). bytes z) m in let a = bytes_append name rest in eq-eqb (place end text + bytes name) (place end rest) (omega (arith, f, a, h))
 
+-- ---- punctuators
+
+wordless : List Spelling → Bool
+wordless [] = true
+wordless (x ∷ xs) = not (is_word (token_kind_number x.1)) && wordless xs
+
+among : (xs : List Spelling) → wordless xs ≡ true → (s : List ℕ) (k : TokenKind) → IsAmong xs s k → is_word (token_kind_number k) ≡ false
+unfolding wordless
+among [] t s k a = absurd a
+among (x ∷ xs) t s k (inl a) = subst (λ (z : TokenKind). is_word (token_kind_number z) ≡ false) a.1 (not-true (is_word (token_kind_number x.1)) (and_parts (not (is_word (token_kind_number x.1))) (wordless xs) t).0)
+among (x ∷ xs) t s k (inr a) = among xs (and_parts (not (is_word (token_kind_number x.1))) (wordless xs) t).1 s k a
+
+all_wordless : wordless punctuators ≡ true
+unfolding wordless
+all_wordless = refl
+
+-- no punctuator is a word
+pub no_word : (text : List ℕ) (k : TokenKind) (rest : List ℕ) → IsPunctuator text k rest → is_word (token_kind_number k) ≡ false
+no_word text k rest h = among punctuators all_wordless h.1.0 k h.1.1
+
 module _ (end : ℕ) (lb : Bool) (text rest : List ℕ) (h : bytes text ≤ end) where
   abbrev Told : SpecLexeme → Type 0
   Told x = is_escaped (spot_at end lb x.token text rest) ≡ x.escaped
@@ -97,24 +117,9 @@ module _ (end : ℕ) (lb : Bool) (text rest : List ℕ) (h : bytes text ≤ end)
   ordinary_told x (inr (inl w)) = subst (λ (z : SpecLexeme). Told z) (sym w.3) (number_told w.0 w.1)
   ordinary_told x (inr (inr w)) = subst (λ (z : SpecLexeme). Told z) (sym w.5) refl
 
-  -- no punctuator is a word
-  wordless : List Spelling → Bool
-  wordless [] = true
-  wordless (x ∷ xs) = not (is_word (token_kind_number x.1)) && wordless xs
-
-  among : (xs : List Spelling) → wordless xs ≡ true → (s : List ℕ) (k : TokenKind) → IsAmong xs s k → is_word (token_kind_number k) ≡ false
-  unfolding wordless
-  among [] t s k a = absurd a
-  among (x ∷ xs) t s k (inl a) = subst (λ (z : TokenKind). is_word (token_kind_number z) ≡ false) a.1 (not-true (is_word (token_kind_number x.1)) (and_parts (not (is_word (token_kind_number x.1))) (wordless xs) t).0)
-  among (x ∷ xs) t s k (inr a) = among xs (and_parts (not (is_word (token_kind_number x.1))) (wordless xs) t).1 s k a
-
-  all_wordless : wordless punctuators ≡ true
-  unfolding wordless
-  all_wordless = refl
-
   mark_told : (x : SpecLexeme) → IsMark text x rest → Told x
   mark_told x w = subst (λ (z : SpecLexeme). Told z) (sym w.2)
-      (ap (λ (z : Bool). z && not ((place end text + 0) == place end rest)) (among punctuators all_wordless w.1.1.0 w.0 w.1.1.1))
+      (ap (λ (z : Bool). z && not ((place end text + 0) == place end rest)) (no_word text w.0 rest w.1))
 
   outside_told : (goal : LexicalGoal) (x : SpecLexeme) → lexeme.IsOutside goal text x rest → Told x
   outside_told goal x (inl w) = ordinary_told x w

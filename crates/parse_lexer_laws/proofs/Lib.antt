@@ -10,3 +10,6 @@ pub mod Untakes
 pub mod Tiles
 pub mod Escapes
 pub mod Usual
+pub mod Lands
+pub mod WordKinds
+pub mod Order

@@ -6,3 +6,5 @@ pub mod Standing
 pub mod Handed
 pub mod Tiled
 pub mod Escapes
+pub mod WordKinds
+pub mod Order

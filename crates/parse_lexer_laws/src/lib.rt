@@ -8,8 +8,10 @@ ghost use Rattle.parse_lexer_laws.specs.Constant.{ParserOrderly, TokensRead};
 ghost use Rattle.parse_lexer_laws.specs.Escapes.{EscapesTold};
 ghost use Rattle.parse_lexer_laws.specs.Handed.{NewAtStart, ReadHanded, TilesHanded};
 ghost use Rattle.parse_lexer_laws.specs.Lexed.{LexerConstant, LexerRead};
+ghost use Rattle.parse_lexer_laws.specs.Order.{FirstInFront, LexerHandsInOrder};
 ghost use Rattle.parse_lexer_laws.specs.Standing.{LexerConsumed, LexerRereads};
 ghost use Rattle.parse_lexer_laws.specs.Tiled.{DerivedTile, DerivedUsual, HandedTile, MatchedUsual};
+ghost use Rattle.parse_lexer_laws.specs.WordKinds.{AsyncTold, HandsKinds, LexerTellsKinds};
 ghost use Rattle.lex_source.specs.Machine.{Machine, Source};
 
 /// A source of tokens, which of its states are good, and which are the same.
@@ -83,4 +85,27 @@ pub fn tiled_law()
 #[tactic(auto)]
 pub fn escapes_law()
     ensures told { EscapesTold }
+{}
+
+/// Law: a source that hands out words of their kinds does so to a parser, also where a slash is read again; and the word
+/// `async` by its kind is that word by its text.
+#[tactic(auto)]
+pub fn kinds_law<I: Tokened>()
+    ensures hands { HandsKinds I.machine I.good I.same }
+    ensures told { AsyncTold }
+{}
+
+/// Law: each word of a lexer is of the kind of its text, whatever was read and told before.
+#[tactic(auto)]
+pub fn lexer_kinds_law()
+    ensures { LexerTellsKinds }
+{}
+
+/// Law: the tokens that a lexer hands out to a parser that stands in front of it are in the order of their places, each with
+/// a character, but for the characters of a template, and for the fault where these don't end; so it is in front of a
+/// lexer's first token.
+#[tactic(auto)]
+pub fn order_law()
+    ensures order { LexerHandsInOrder }
+    ensures starts { FirstInFront }
 {}

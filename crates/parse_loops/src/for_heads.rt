@@ -5,12 +5,13 @@ ghost use Rattle.grammar_spec.specs.Tokens.Shape as shape;
 ghost use Rattle.tree_nodes.specs.Fits.{fits_for_head, fits_var_decl_or_expr, fits_var_declarator};
 ghost use Rattle.tree_nodes.specs.Placed.{holds_stmt, inner};
 ghost use Rattle.tree_nodes.specs.View.{var_decl_kind_word, view_for_head, view_var_decl_or_expr, view_var_declarator};
-ghost use Rattle.grammar_spec.specs.Reader.Source as spec;
 ghost use Rattle.grammar_spec.specs.Reader.Statements as reads;
-ghost use Rattle.parse_state.specs.Answers.{Falls, Gives};
 ghost use Rattle.parse_state.specs.Codes.{code_of};
 ghost use Rattle.parse_state.specs.Cursors.{stream_of};
-ghost use Rattle.parse_state.specs.States.{from, state_of};
+ghost use Rattle.parse_state.specs.States.{from};
+ghost use Rattle.parse_state.specs.Reads.{at_hand, Shorter};
+ghost use Rattle.parse_operands.specs.Rules.{ReadsBy};
+ghost use Rattle.parse_operands.specs.Operands.{tree_in};
 ghost use Rattle.parse_loops.specs.Heads.{declared_of, FitDeclared, view_declared};
 
 use crate::for_tails::{for_rest, in_rest, of_rest};
@@ -38,6 +39,7 @@ fn is_bare(item: &VarDeclarator) -> bool
 {
     match &item.init {
         None => true,
+        // For the proof: the match shows the kind, and by it no expression is left out.
         Some(init) => match &init.get().kind {
             ExprKind::Seq(_) => false,
             _ => false,
@@ -52,7 +54,8 @@ fn one_bare<'a, I: Tokens<'a> + Drop, N: Nested<'a, I>>(
     items: &[VarDeclarator],
 ) -> bool
     requires { All (λ x. fits_var_declarator (λ p. p) x) items.now }
-    ensures { result ≡ reads.one_bare (stream_of I.machine) (N.reads _nested.now I.State I.machine) (map (view_var_declarator inner) items.now) }
+    ensures { result ≡ reads.one_bare (stream_of I.machine) (N.reads _nested.now I.State I.machine)
+        (map (view_var_declarator inner) items.now) }
 {
     match items {
         [item] => is_bare(item),
@@ -91,7 +94,8 @@ fn declares_one<'a, I: Tokens<'a> + Drop, N: Nested<'a, I>>(
     declared: &Declared,
 ) -> bool
     requires { FitDeclared declared.now }
-    ensures { result ≡ reads.one_bare (stream_of I.machine) (N.reads nested.now I.State I.machine) (declared_of declared.now) }
+    ensures { result ≡ reads.one_bare (stream_of I.machine) (N.reads nested.now I.State I.machine)
+        (declared_of declared.now) }
 {
     match declared {
         Declared::Variables(x) => one_bare(p, nested, x.decls.as_slice()),
@@ -112,9 +116,12 @@ pub fn head_rest<'a, I: Tokens<'a> + Drop, N: Nested<'a, I>>(
 ) -> Result<StmtBox, Failure>
     requires ready { N.ready nested.now }
     requires declared { FitDeclared declared }
-    ensures value { Gives (λ x. (inner x.part.value, state_of I.state p.new)) (spec.bound (stream_of I.machine) (state_of I.state p.new)) result (reads.head_rest (stream_of I.machine) (N.reads nested.now I.State I.machine) (code_of code) (from start.0) awaits (declared_of declared) (view_declared declared) (state_of I.state p.old)) }
+    ensures value { ReadsBy I.machine I.state (N.reads nested.now) p.old p.new result
+        tree_in
+        (λ m r. reads.head_rest m r (code_of code) (from start.0) awaits (declared_of declared)
+        (view_declared declared)) }
     ensures holds { IfOk result (λ x. holds_stmt x.part.value) }
-    ensures shorter { Falls result (spec.bound (stream_of I.machine) (state_of I.state p.new)) (spec.bound (stream_of I.machine) (state_of I.state p.old)) }
+    ensures shorter { Shorter I.machine I.state p.old p.new result }
 {
     if p.at(kinds::OF) {
         if !declares_one(p, nested, &declared) {
@@ -146,11 +153,12 @@ pub fn for_variables<'a, I: Tokens<'a> + Drop, N: Nested<'a, I>>(
     word: VarDeclKind,
 ) -> Result<StmtBox, Failure>
     requires ready { N.ready nested.now }
-    requires word { var_decl_kind_word word ≡ kind (spec.input (stream_of I.machine) (state_of I.state p.old)) }
-    requires some { kind (spec.input (stream_of I.machine) (state_of I.state p.old)) ≢ 0 }
-    ensures value { Gives (λ x. (inner x.part.value, state_of I.state p.new)) (spec.bound (stream_of I.machine) (state_of I.state p.new)) result (reads.for_variables (stream_of I.machine) (N.reads nested.now I.State I.machine) (code_of code) (from start.0) awaits (state_of I.state p.old)) }
+    requires word { var_decl_kind_word word ≡ kind (at_hand I.machine I.state p.old) }
+    requires some { kind (at_hand I.machine I.state p.old) ≢ 0 }
+    ensures value { ReadsBy I.machine I.state (N.reads nested.now) p.old p.new result
+        tree_in (λ m r. reads.for_variables m r (code_of code) (from start.0) awaits) }
     ensures holds { IfOk result (λ x. holds_stmt x.part.value) }
-    ensures shorter { Falls result (spec.bound (stream_of I.machine) (state_of I.state p.new)) (spec.bound (stream_of I.machine) (state_of I.state p.old)) }
+    ensures shorter { Shorter I.machine I.state p.old p.new result }
 {
     let own = p.lo();
     p.eat_word(code, p.kind())?;
@@ -172,9 +180,11 @@ pub fn for_using<'a, I: Tokens<'a> + Drop, N: Nested<'a, I>>(
     waits: bool,
 ) -> Result<StmtBox, Failure>
     requires ready { N.ready nested.now }
-    ensures value { Gives (λ x. (inner x.part.value, state_of I.state p.new)) (spec.bound (stream_of I.machine) (state_of I.state p.new)) result (reads.for_using (stream_of I.machine) (N.reads nested.now I.State I.machine) (code_of code) (from start.0) awaits (from own.0) waits (state_of I.state p.old)) }
+    ensures value { ReadsBy I.machine I.state (N.reads nested.now) p.old p.new result
+        tree_in
+        (λ m r. reads.for_using m r (code_of code) (from start.0) awaits (from own.0) waits) }
     ensures holds { IfOk result (λ x. holds_stmt x.part.value) }
-    ensures shorter { Falls result (spec.bound (stream_of I.machine) (state_of I.state p.new)) (spec.bound (stream_of I.machine) (state_of I.state p.old)) }
+    ensures shorter { Shorter I.machine I.state p.old p.new result }
 {
     p.eat_word(code, kinds::USING)?;
     let list = declarators(p, nested, without_in(code))?;

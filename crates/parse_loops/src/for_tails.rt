@@ -4,13 +4,12 @@ ghost use Rattle.tree_nodes.specs.Fits.{fits_for_head, fits_held, fits_var_decl_
 ghost use Rattle.tree_nodes.specs.Placed.{holds_stmt, inner};
 ghost use Rattle.tree_nodes.specs.View.{view_for_head, view_var_decl_or_expr};
 ghost use Rattle.tree_spec.specs.Tree.{part_by};
-ghost use Rattle.grammar_spec.specs.Reader.Source as spec;
 ghost use Rattle.grammar_spec.specs.Reader.Statements as reads;
-ghost use Rattle.parse_state.specs.Answers.{Falls, Gives};
 ghost use Rattle.parse_state.specs.Codes.{code_of};
-ghost use Rattle.parse_state.specs.Cursors.{stream_of};
-ghost use Rattle.parse_state.specs.States.{from, state_of};
-ghost use Rattle.parse_operands.specs.Operands.{tree_of};
+ghost use Rattle.parse_state.specs.States.{from};
+ghost use Rattle.parse_state.specs.Reads.{Shorter};
+ghost use Rattle.parse_operands.specs.Operands.{tree_of, tree_in};
+ghost use Rattle.parse_operands.specs.Rules.{ReadsBy};
 ghost use Rattle.parse_loops.specs.Heads.{over_by};
 
 use crate::made;
@@ -32,8 +31,9 @@ pub fn clause<'a, I: Tokens<'a> + Drop, N: Nested<'a, I>>(
 ) -> Result<Option<Operand>, Failure>
     requires ready { N.ready nested.now }
     requires close { 0 < close }
-    ensures value { Gives (λ x. (part_by tree_of x, state_of I.state p.new)) (spec.bound (stream_of I.machine) (state_of I.state p.new)) result (reads.clause_by (stream_of I.machine) (N.reads nested.now I.State I.machine) (code_of code) close (state_of I.state p.old)) }
-    ensures shorter { Falls result (spec.bound (stream_of I.machine) (state_of I.state p.new)) (spec.bound (stream_of I.machine) (state_of I.state p.old)) }
+    ensures value { ReadsBy I.machine I.state (N.reads nested.now) p.old p.new result
+        (part_by tree_of) (λ m r. reads.clause_by m r (code_of code) close) }
+    ensures shorter { Shorter I.machine I.state p.old p.new result }
 {
     if p.eat(close)? {
         return Ok(None);
@@ -55,9 +55,11 @@ pub fn for_rest<'a, I: Tokens<'a> + Drop, N: Nested<'a, I>>(
 ) -> Result<StmtBox, Failure>
     requires ready { N.ready nested.now }
     requires init { fits_held (λ x. fits_var_decl_or_expr (λ p. p) x) init }
-    ensures value { Gives (λ x. (inner x.part.value, state_of I.state p.new)) (spec.bound (stream_of I.machine) (state_of I.state p.new)) result (reads.for_rest (stream_of I.machine) (N.reads nested.now I.State I.machine) (code_of code) (from start.0) (part_by (view_var_decl_or_expr inner) init) (state_of I.state p.old)) }
+    ensures value { ReadsBy I.machine I.state (N.reads nested.now) p.old p.new result
+        tree_in
+        (λ m r. reads.for_rest m r (code_of code) (from start.0) (part_by (view_var_decl_or_expr inner) init)) }
     ensures holds { IfOk result (λ x. holds_stmt x.part.value) }
-    ensures shorter { Falls result (spec.bound (stream_of I.machine) (state_of I.state p.new)) (spec.bound (stream_of I.machine) (state_of I.state p.old)) }
+    ensures shorter { Shorter I.machine I.state p.old p.new result }
 {
     p.expect(kinds::SEMICOLON)?;
     let test = clause(p, nested, code, kinds::SEMICOLON)?;
@@ -76,9 +78,10 @@ pub fn over<'a, I: Tokens<'a> + Drop, N: Nested<'a, I>>(
     level: u8,
 ) -> Result<(Operand, StmtBox), Failure>
     requires ready { N.ready nested.now }
-    ensures value { Gives (λ x. ((tree_of x.0, inner x.1.part.value), state_of I.state p.new)) (spec.bound (stream_of I.machine) (state_of I.state p.new)) result (over_by (stream_of I.machine) (N.reads nested.now I.State I.machine) (code_of code) level (state_of I.state p.old)) }
+    ensures value { ReadsBy I.machine I.state (N.reads nested.now) p.old p.new result
+        (λ x. (tree_of x.0, inner x.1.part.value)) (λ m r. over_by m r (code_of code) level) }
     ensures fits { IfOk result (λ x. holds_stmt x.1.part.value) }
-    ensures shorter { Falls result (spec.bound (stream_of I.machine) (state_of I.state p.new)) (spec.bound (stream_of I.machine) (state_of I.state p.old)) }
+    ensures shorter { Shorter I.machine I.state p.old p.new result }
 {
     let right = nested.expr(p, code, level)?;
     p.expect(kinds::RIGHT_PAREN)?;
@@ -98,9 +101,11 @@ pub fn in_rest<'a, I: Tokens<'a> + Drop, N: Nested<'a, I>>(
 ) -> Result<StmtBox, Failure>
     requires ready { N.ready nested.now }
     requires left { fits_for_head (λ p. p) left }
-    ensures value { Gives (λ x. (inner x.part.value, state_of I.state p.new)) (spec.bound (stream_of I.machine) (state_of I.state p.new)) result (reads.in_rest (stream_of I.machine) (N.reads nested.now I.State I.machine) (code_of code) (from start.0) (view_for_head inner left) (state_of I.state p.old)) }
+    ensures value { ReadsBy I.machine I.state (N.reads nested.now) p.old p.new result
+        tree_in
+        (λ m r. reads.in_rest m r (code_of code) (from start.0) (view_for_head inner left)) }
     ensures holds { IfOk result (λ x. holds_stmt x.part.value) }
-    ensures shorter { Falls result (spec.bound (stream_of I.machine) (state_of I.state p.new)) (spec.bound (stream_of I.machine) (state_of I.state p.old)) }
+    ensures shorter { Shorter I.machine I.state p.old p.new result }
 {
     p.eat_word(code, kinds::IN)?;
     let (right, body) = over(p, nested, code, EXPRESSION)?;
@@ -120,9 +125,11 @@ pub fn of_rest<'a, I: Tokens<'a> + Drop, N: Nested<'a, I>>(
 ) -> Result<StmtBox, Failure>
     requires ready { N.ready nested.now }
     requires left { fits_for_head (λ p. p) left }
-    ensures value { Gives (λ x. (inner x.part.value, state_of I.state p.new)) (spec.bound (stream_of I.machine) (state_of I.state p.new)) result (reads.of_rest (stream_of I.machine) (N.reads nested.now I.State I.machine) (code_of code) (from start.0) awaits (view_for_head inner left) (state_of I.state p.old)) }
+    ensures value { ReadsBy I.machine I.state (N.reads nested.now) p.old p.new result
+        tree_in
+        (λ m r. reads.of_rest m r (code_of code) (from start.0) awaits (view_for_head inner left)) }
     ensures holds { IfOk result (λ x. holds_stmt x.part.value) }
-    ensures shorter { Falls result (spec.bound (stream_of I.machine) (state_of I.state p.new)) (spec.bound (stream_of I.machine) (state_of I.state p.old)) }
+    ensures shorter { Shorter I.machine I.state p.old p.new result }
 {
     p.eat_word(code, kinds::OF)?;
     let (right, body) = over(p, nested, code, ASSIGNMENT)?;

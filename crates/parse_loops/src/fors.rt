@@ -6,11 +6,13 @@ ghost use Rattle.tree_nodes.specs.Placed.{holds_pat, holds_stmt, inner};
 ghost use Rattle.grammar_spec.specs.Reader.Source as spec;
 ghost use Rattle.grammar_spec.specs.Reader.Cover.{to_head, to_item};
 ghost use Rattle.grammar_spec.specs.Reader.Statements as reads;
-ghost use Rattle.parse_state.specs.Answers.{Falls, Gives, IsMemory};
+ghost use Rattle.parse_state.specs.Answers.{Gives, IsMemory};
 ghost use Rattle.parse_state.specs.Codes.{code_of};
 ghost use Rattle.parse_state.specs.Cursors.{stream_of};
 ghost use Rattle.parse_state.specs.States.{from, state_of};
-ghost use Rattle.parse_operands.specs.Operands.{tree_of};
+ghost use Rattle.parse_state.specs.Reads.{at_hand, Shorter};
+ghost use Rattle.parse_operands.specs.Operands.{tree_of, tree_in};
+ghost use Rattle.parse_operands.specs.Rules.{ReadsBy};
 ghost use Rattle.parse_loops.specs.Fors.{bars_of, for_target, using_head};
 
 use crate::for_heads::{for_using, for_variables};
@@ -26,7 +28,8 @@ use tree_nodes::{ExprKind, ForHead, PatBox, StmtBox, VarDeclKind, VarDeclOrExpr}
 
 /// Whether an expression is an assignment, which heads no `for`.
 fn is_assignment(expr: &Operand) -> bool
-    ensures { (commas : List ℕ) → to_head commas (tree_of expr.now) ≡ (if result then spec.unfit else to_item false commas (tree_of expr.now)) }
+    ensures { (commas : List ℕ) → to_head commas (tree_of expr.now)
+        ≡ (if result then spec.unfit else to_item false commas (tree_of expr.now)) }
 {
     matches!(&expr.expr.get().kind, ExprKind::Assign(_))
 }
@@ -56,9 +59,10 @@ pub fn target<'a, I: Tokens<'a> + Drop, N: Nested<'a, I>>(
     expr: Operand,
 ) -> Result<StmtBox, Failure>
     requires ready { N.ready nested.now }
-    ensures value { Gives (λ x. (inner x.part.value, state_of I.state p.new)) (spec.bound (stream_of I.machine) (state_of I.state p.new)) result (for_target (stream_of I.machine) (N.reads nested.now I.State I.machine) (code_of code) (from start.0) awaits barred (tree_of expr) (state_of I.state p.old)) }
+    ensures value { ReadsBy I.machine I.state (N.reads nested.now) p.old p.new result
+        tree_in (λ m r. for_target m r (code_of code) (from start.0) awaits barred (tree_of expr)) }
     ensures holds { IfOk result (λ x. holds_stmt x.part.value) }
-    ensures shorter { Falls result (spec.bound (stream_of I.machine) (state_of I.state p.new)) (spec.bound (stream_of I.machine) (state_of I.state p.old)) }
+    ensures shorter { Shorter I.machine I.state p.old p.new result }
 {
     if p.at(kinds::OF) {
         if barred {
@@ -104,9 +108,10 @@ pub fn for_expression<'a, I: Tokens<'a> + Drop, N: Nested<'a, I>>(
     awaits: bool,
 ) -> Result<StmtBox, Failure>
     requires ready { N.ready nested.now }
-    ensures value { Gives (λ x. (inner x.part.value, state_of I.state p.new)) (spec.bound (stream_of I.machine) (state_of I.state p.new)) result (reads.for_expression (stream_of I.machine) (N.reads nested.now I.State I.machine) (code_of code) (from start.0) awaits (state_of I.state p.old)) }
+    ensures value { ReadsBy I.machine I.state (N.reads nested.now) p.old p.new result
+        tree_in (λ m r. reads.for_expression m r (code_of code) (from start.0) awaits) }
     ensures holds { IfOk result (λ x. holds_stmt x.part.value) }
-    ensures shorter { Falls result (spec.bound (stream_of I.machine) (state_of I.state p.new)) (spec.bound (stream_of I.machine) (state_of I.state p.old)) }
+    ensures shorter { Shorter I.machine I.state p.old p.new result }
 {
     let barred = is_barred(p, awaits)?;
     if p.at(kinds::LET) && p.second()?.0 == kinds::LEFT_BRACKET {
@@ -127,7 +132,9 @@ fn heads_using<'a, I: Tokens<'a> + Drop, N: Nested<'a, I>>(
     nested: &N,
     code: Around,
 ) -> Result<bool, Failure>
-    ensures value { IfOk result (λ b. b ≡ (reads.starts_using (stream_of I.machine) (N.reads nested.now I.State I.machine) (code_of code) (state_of I.state p.now) && not (kind2 (spec.input (stream_of I.machine) (state_of I.state p.now)) == of_kind))) }
+    ensures value { IfOk result (λ b. b ≡ (reads.starts_using (stream_of I.machine)
+        (N.reads nested.now I.State I.machine) (code_of code) (state_of I.state p.now)
+        && not (kind2 (at_hand I.machine I.state p.now) == of_kind))) }
     ensures full { IfErr result IsMemory }
 {
     if !p.at(kinds::USING) || !starts_using(p, nested, code)? {
@@ -148,7 +155,9 @@ fn heads_await_using<'a, I: Tokens<'a> + Drop, N: Nested<'a, I>>(
     nested: &N,
     code: Around,
 ) -> Result<bool, Failure>
-    ensures value { IfOk result (λ b. b ≡ (reads.starts_await_using (stream_of I.machine) (N.reads nested.now I.State I.machine) (code_of code) (state_of I.state p.now) && not (kind2 (rest (spec.input (stream_of I.machine) (state_of I.state p.now))) == of_kind))) }
+    ensures value { IfOk result (λ b. b ≡ (reads.starts_await_using (stream_of I.machine)
+        (N.reads nested.now I.State I.machine) (code_of code) (state_of I.state p.now)
+        && not (kind2 (rest (at_hand I.machine I.state p.now)) == of_kind))) }
     ensures full { IfErr result IsMemory }
 {
     if !starts_await_using(p, nested, code)? {
@@ -169,9 +178,10 @@ pub fn using_head<'a, I: Tokens<'a> + Drop, N: Nested<'a, I>>(
     awaits: bool,
 ) -> Result<StmtBox, Failure>
     requires ready { N.ready nested.now }
-    ensures value { Gives (λ x. (inner x.part.value, state_of I.state p.new)) (spec.bound (stream_of I.machine) (state_of I.state p.new)) result (using_head (stream_of I.machine) (N.reads nested.now I.State I.machine) (code_of code) (from start.0) awaits (state_of I.state p.old)) }
+    ensures value { ReadsBy I.machine I.state (N.reads nested.now) p.old p.new result
+        tree_in (λ m r. using_head m r (code_of code) (from start.0) awaits) }
     ensures holds { IfOk result (λ x. holds_stmt x.part.value) }
-    ensures shorter { Falls result (spec.bound (stream_of I.machine) (state_of I.state p.new)) (spec.bound (stream_of I.machine) (state_of I.state p.old)) }
+    ensures shorter { Shorter I.machine I.state p.old p.new result }
 {
     let own = p.lo();
     if heads_using(p, nested, code)? {
@@ -195,9 +205,10 @@ pub fn for_head<'a, I: Tokens<'a> + Drop, N: Nested<'a, I>>(
     awaits: bool,
 ) -> Result<StmtBox, Failure>
     requires ready { N.ready nested.now }
-    ensures value { Gives (λ x. (inner x.part.value, state_of I.state p.new)) (spec.bound (stream_of I.machine) (state_of I.state p.new)) result (reads.for_head (stream_of I.machine) (N.reads nested.now I.State I.machine) (code_of code) (from start.0) awaits (state_of I.state p.old)) }
+    ensures value { ReadsBy I.machine I.state (N.reads nested.now) p.old p.new result
+        tree_in (λ m r. reads.for_head m r (code_of code) (from start.0) awaits) }
     ensures holds { IfOk result (λ x. holds_stmt x.part.value) }
-    ensures shorter { Falls result (spec.bound (stream_of I.machine) (state_of I.state p.new)) (spec.bound (stream_of I.machine) (state_of I.state p.old)) }
+    ensures shorter { Shorter I.machine I.state p.old p.new result }
 {
     if p.at(kinds::SEMICOLON) {
         if awaits {
@@ -226,9 +237,10 @@ pub fn for_loop<'a, I: Tokens<'a> + Drop, N: Nested<'a, I>>(
     code: Around,
 ) -> Result<StmtBox, Failure>
     requires ready { N.ready nested.now }
-    ensures value { Gives (λ x. (inner x.part.value, state_of I.state p.new)) (spec.bound (stream_of I.machine) (state_of I.state p.new)) result (reads.for_by (stream_of I.machine) (N.reads nested.now I.State I.machine) (code_of code) (state_of I.state p.old)) }
+    ensures value { ReadsBy I.machine I.state (N.reads nested.now) p.old p.new result
+        tree_in (λ m r. reads.for_by m r (code_of code)) }
     ensures holds { IfOk result (λ x. holds_stmt x.part.value) }
-    ensures shorter { Falls result (spec.bound (stream_of I.machine) (state_of I.state p.new)) (spec.bound (stream_of I.machine) (state_of I.state p.old)) }
+    ensures shorter { Shorter I.machine I.state p.old p.new result }
 {
     let start = p.lo();
     p.eat_word(code, kinds::FOR)?;

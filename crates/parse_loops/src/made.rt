@@ -75,7 +75,9 @@ pub fn for_stmt(
 ) -> Result<StmtBox, Failure>
     requires init { fits_held (λ x. fits_var_decl_or_expr (λ p. p) x) init }
     requires body { holds_stmt body.part.value }
-    ensures value { IfOk result (λ x. inner x.part.value ≡ for_stmt span (part_by (view_var_decl_or_expr inner) init) (part_by tree_of test) (part_by tree_of update) (inner body.part.value)) }
+    ensures value { IfOk result (λ x. inner x.part.value
+        ≡ for_stmt span (part_by (view_var_decl_or_expr inner) init) (part_by tree_of test)
+        (part_by tree_of update) (inner body.part.value)) }
     ensures holds { IfOk result (λ x. holds_stmt x.part.value) }
     ensures full { IfErr result IsMemory }
 {
@@ -110,7 +112,8 @@ pub fn for_in_stmt(
 ) -> Result<StmtBox, Failure>
     requires left { fits_for_head (λ p. p) left }
     requires body { holds_stmt body.part.value }
-    ensures value { IfOk result (λ x. inner x.part.value ≡ for_in_stmt span (view_for_head inner left) (tree_of right) (inner body.part.value)) }
+    ensures value { IfOk result (λ x. inner x.part.value
+        ≡ for_in_stmt span (view_for_head inner left) (tree_of right) (inner body.part.value)) }
     ensures holds { IfOk result (λ x. holds_stmt x.part.value) }
     ensures full { IfErr result IsMemory }
 {
@@ -137,7 +140,9 @@ pub fn for_of_stmt(
 ) -> Result<StmtBox, Failure>
     requires left { fits_for_head (λ p. p) left }
     requires body { holds_stmt body.part.value }
-    ensures value { IfOk result (λ x. inner x.part.value ≡ for_of_stmt span is_await (view_for_head inner left) (tree_of right) (inner body.part.value)) }
+    ensures value { IfOk result (λ x. inner x.part.value
+        ≡ for_of_stmt span is_await (view_for_head inner left) (tree_of right)
+        (inner body.part.value)) }
     ensures holds { IfOk result (λ x. holds_stmt x.part.value) }
     ensures full { IfErr result IsMemory }
 {

@@ -3,12 +3,11 @@ ghost use Rattle.std.specs.Prelude.{◌≡◌, false, true, IfOk};
 ghost use Rattle.tree_nodes.specs.Fits.{fits_module_decl};
 ghost use Rattle.tree_nodes.specs.Placed.{inner};
 ghost use Rattle.tree_nodes.specs.View.{view_module_decl};
-ghost use Rattle.grammar_spec.specs.Reader.Source as spec;
 ghost use Rattle.grammar_spec.specs.Reader.Modules as reads;
-ghost use Rattle.parse_state.specs.Answers.{Falls, Gives};
 ghost use Rattle.parse_state.specs.Codes.{code_of};
-ghost use Rattle.parse_state.specs.Cursors.{stream_of};
-ghost use Rattle.parse_state.specs.States.{from, state_of};
+ghost use Rattle.parse_state.specs.States.{from};
+ghost use Rattle.parse_state.specs.Reads.{Shorter};
+ghost use Rattle.parse_operands.specs.Rules.{ReadsBy};
 ghost use Rattle.parse_modules.specs.Steps.{default_expr_by, default_fn_by, default_other_by};
 
 use base_token::BytePos;
@@ -32,9 +31,11 @@ pub fn default_fn<'a, I: Tokens<'a> + Drop, N: Nested<'a, I>>(
     is_async: bool,
 ) -> Result<ModuleDecl, Failure>
     requires ready { N.ready nested.now }
-    ensures value { Gives (λ x. (view_module_decl inner x, state_of I.state p.new)) (spec.bound (stream_of I.machine) (state_of I.state p.new)) result (default_fn_by (stream_of I.machine) (N.reads nested.now I.State I.machine) (code_of code) (from start.0) (from begin.0) is_async (state_of I.state p.old)) }
+    ensures value { ReadsBy I.machine I.state (N.reads nested.now) p.old p.new result
+        (view_module_decl inner)
+        (λ m r. default_fn_by m r (code_of code) (from start.0) (from begin.0) is_async) }
     ensures fits { IfOk result (λ x. fits_module_decl (λ p. p) x) }
-    ensures shorter { Falls result (spec.bound (stream_of I.machine) (state_of I.state p.new)) (spec.bound (stream_of I.machine) (state_of I.state p.old)) }
+    ensures shorter { Shorter I.machine I.state p.old p.new result }
 {
     let function = function_expr(p, nested, code, begin, is_async)?;
     Ok(ModuleDecl::ExportDefaultDecl(ExportDefaultDecl {
@@ -53,9 +54,10 @@ pub fn default_expr<'a, I: Tokens<'a> + Drop, N: Nested<'a, I>>(
     start: BytePos,
 ) -> Result<ModuleDecl, Failure>
     requires ready { N.ready nested.now }
-    ensures value { Gives (λ x. (view_module_decl inner x, state_of I.state p.new)) (spec.bound (stream_of I.machine) (state_of I.state p.new)) result (default_expr_by (stream_of I.machine) (N.reads nested.now I.State I.machine) (code_of code) (from start.0) (state_of I.state p.old)) }
+    ensures value { ReadsBy I.machine I.state (N.reads nested.now) p.old p.new result
+        (view_module_decl inner) (λ m r. default_expr_by m r (code_of code) (from start.0)) }
     ensures fits { IfOk result (λ x. fits_module_decl (λ p. p) x) }
-    ensures shorter { Falls result (spec.bound (stream_of I.machine) (state_of I.state p.new)) (spec.bound (stream_of I.machine) (state_of I.state p.old)) }
+    ensures shorter { Shorter I.machine I.state p.old p.new result }
 {
     let read = nested.expr(p, code, ASSIGNMENT)?;
     p.end_of(code, read.end)?;
@@ -75,9 +77,10 @@ pub fn default_other<'a, I: Tokens<'a> + Drop, N: Nested<'a, I>>(
     start: BytePos,
 ) -> Result<ModuleDecl, Failure>
     requires ready { N.ready nested.now }
-    ensures value { Gives (λ x. (view_module_decl inner x, state_of I.state p.new)) (spec.bound (stream_of I.machine) (state_of I.state p.new)) result (default_other_by (stream_of I.machine) (N.reads nested.now I.State I.machine) (code_of code) (from start.0) (state_of I.state p.old)) }
+    ensures value { ReadsBy I.machine I.state (N.reads nested.now) p.old p.new result
+        (view_module_decl inner) (λ m r. default_other_by m r (code_of code) (from start.0)) }
     ensures fits { IfOk result (λ x. fits_module_decl (λ p. p) x) }
-    ensures shorter { Falls result (spec.bound (stream_of I.machine) (state_of I.state p.new)) (spec.bound (stream_of I.machine) (state_of I.state p.old)) }
+    ensures shorter { Shorter I.machine I.state p.old p.new result }
 {
     if !p.at(kinds::CLASS) {
         return default_expr(p, nested, code, start);
@@ -99,9 +102,10 @@ pub fn export_default<'a, I: Tokens<'a> + Drop, N: Nested<'a, I>>(
     start: BytePos,
 ) -> Result<ModuleDecl, Failure>
     requires ready { N.ready nested.now }
-    ensures value { Gives (λ x. (view_module_decl inner x, state_of I.state p.new)) (spec.bound (stream_of I.machine) (state_of I.state p.new)) result (reads.export_default (stream_of I.machine) (N.reads nested.now I.State I.machine) (code_of code) (from start.0) (state_of I.state p.old)) }
+    ensures value { ReadsBy I.machine I.state (N.reads nested.now) p.old p.new result
+        (view_module_decl inner) (λ m r. reads.export_default m r (code_of code) (from start.0)) }
     ensures fits { IfOk result (λ x. fits_module_decl (λ p. p) x) }
-    ensures shorter { Falls result (spec.bound (stream_of I.machine) (state_of I.state p.new)) (spec.bound (stream_of I.machine) (state_of I.state p.old)) }
+    ensures shorter { Shorter I.machine I.state p.old p.new result }
 {
     let begin = p.lo();
     if p.at(kinds::FUNCTION) {

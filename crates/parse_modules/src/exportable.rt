@@ -9,7 +9,9 @@ use tree_nodes::{Decl, Stmt, StmtKind};
 
 /// A declaration that `export` may stand before (ECMA-262, 16.2.3), out of its statement.
 pub fn exportable(stmt: Stmt) -> Option<Decl>
-    ensures { MatchOption result (shape.is_exportable stmt ≡ false) (λ d. (shape.is_exportable stmt ≡ true) × (stmt ≡ view_decl inner d) × fits_decl (λ p. p) d) }
+    ensures { MatchOption result (shape.is_exportable stmt ≡ false)
+        (λ d. (shape.is_exportable stmt ≡ true) × (stmt ≡ view_decl inner d) × fits_decl
+        (λ p. p) d) }
 {
     match stmt.kind {
         StmtKind::Decl(Decl::Using(_)) => None,

@@ -6,10 +6,12 @@ ghost use Rattle.tree_nodes.specs.Placed.{inner};
 ghost use Rattle.tree_nodes.specs.View.{view_import_decl, view_import_specifier};
 ghost use Rattle.grammar_spec.specs.Reader.Source as spec;
 ghost use Rattle.grammar_spec.specs.Reader.Modules as reads;
-ghost use Rattle.parse_state.specs.Answers.{Falls, Gives, going_on, IsMemory};
+ghost use Rattle.parse_state.specs.Answers.{going_on, IsMemory};
 ghost use Rattle.parse_state.specs.Codes.{code_of};
 ghost use Rattle.parse_state.specs.Cursors.{stream_of};
 ghost use Rattle.parse_state.specs.States.{from, state_of};
+ghost use Rattle.parse_state.specs.Reads.{Shorter};
+ghost use Rattle.parse_operands.specs.Rules.{ReadsBy};
 ghost use Rattle.parse_modules.specs.Firsts.{first_of};
 
 use crate::names::{export_name, local, source};
@@ -30,8 +32,9 @@ pub fn renamed_import<'a, I: Tokens<'a> + Drop, N: Nested<'a, I>>(
     code: Around,
 ) -> Result<ImportSpecifier, Failure>
     requires unnamed { spec.is_name (stream_of I.machine) (code_of code) (state_of I.state p.old) ≡ false }
-    ensures value { Gives (λ x. (view_import_specifier x, state_of I.state p.new)) (spec.bound (stream_of I.machine) (state_of I.state p.new)) result (reads.named_import (stream_of I.machine) (N.reads nested.now I.State I.machine) (code_of code) (state_of I.state p.old)) }
-    ensures shorter { Falls result (spec.bound (stream_of I.machine) (state_of I.state p.new)) (spec.bound (stream_of I.machine) (state_of I.state p.old)) }
+    ensures value { ReadsBy I.machine I.state (N.reads nested.now) p.old p.new result
+        view_import_specifier (λ m r. reads.named_import m r (code_of code)) }
+    ensures shorter { Shorter I.machine I.state p.old p.new result }
 {
     let start = p.lo();
     let imported = export_name(p, nested)?;
@@ -53,8 +56,9 @@ pub fn bound_import<'a, I: Tokens<'a> + Drop, N: Nested<'a, I>>(
     code: Around,
 ) -> Result<ImportSpecifier, Failure>
     requires named { spec.is_name (stream_of I.machine) (code_of code) (state_of I.state p.old) ≡ true }
-    ensures value { Gives (λ x. (view_import_specifier x, state_of I.state p.new)) (spec.bound (stream_of I.machine) (state_of I.state p.new)) result (reads.named_import (stream_of I.machine) (N.reads nested.now I.State I.machine) (code_of code) (state_of I.state p.old)) }
-    ensures shorter { Falls result (spec.bound (stream_of I.machine) (state_of I.state p.new)) (spec.bound (stream_of I.machine) (state_of I.state p.old)) }
+    ensures value { ReadsBy I.machine I.state (N.reads nested.now) p.old p.new result
+        view_import_specifier (λ m r. reads.named_import m r (code_of code)) }
+    ensures shorter { Shorter I.machine I.state p.old p.new result }
 {
     let start = p.lo();
     let span = p.place();
@@ -82,8 +86,9 @@ pub fn named_import<'a, I: Tokens<'a> + Drop, N: Nested<'a, I>>(
     nested: &N,
     code: Around,
 ) -> Result<ImportSpecifier, Failure>
-    ensures value { Gives (λ x. (view_import_specifier x, state_of I.state p.new)) (spec.bound (stream_of I.machine) (state_of I.state p.new)) result (reads.named_import (stream_of I.machine) (N.reads nested.now I.State I.machine) (code_of code) (state_of I.state p.old)) }
-    ensures shorter { Falls result (spec.bound (stream_of I.machine) (state_of I.state p.new)) (spec.bound (stream_of I.machine) (state_of I.state p.old)) }
+    ensures value { ReadsBy I.machine I.state (N.reads nested.now) p.old p.new result
+        view_import_specifier (λ m r. reads.named_import m r (code_of code)) }
+    ensures shorter { Shorter I.machine I.state p.old p.new result }
 {
     if p.is_name(code) {
         bound_import(p, nested, code)
@@ -101,8 +106,10 @@ pub fn import_turn<'a, I: Tokens<'a> + Drop, N: Nested<'a, I>>(
     code: Around,
     list: &mut Vec<ImportSpecifier>,
 ) -> Result<bool, Failure>
-    ensures value { Gives (λ x. (going_on x (map view_import_specifier list.new.items), state_of I.state p.new)) (spec.bound (stream_of I.machine) (state_of I.state p.new)) result (reads.specifier_step (stream_of I.machine) (N.reads nested.now I.State I.machine) true (code_of code) (map view_import_specifier list.old.items) (state_of I.state p.old)) }
-    ensures shorter { Falls result (spec.bound (stream_of I.machine) (state_of I.state p.new)) (spec.bound (stream_of I.machine) (state_of I.state p.old)) }
+    ensures value { ReadsBy I.machine I.state (N.reads nested.now) p.old p.new result
+        (λ x. going_on x (map view_import_specifier list.new.items))
+        (λ m r. reads.specifier_step m r true (code_of code) (map view_import_specifier list.old.items)) }
+    ensures shorter { Shorter I.machine I.state p.old p.new result }
 {
     if p.eat(kinds::RIGHT_BRACE)? {
         return Ok(false);
@@ -124,8 +131,10 @@ pub fn named_imports<'a, I: Tokens<'a> + Drop, N: Nested<'a, I>>(
     nested: &N,
     code: Around,
 ) -> Result<Vec<ImportSpecifier>, Failure>
-    ensures value { Gives (λ x. (map view_import_specifier x.items, state_of I.state p.new)) (spec.bound (stream_of I.machine) (state_of I.state p.new)) result (reads.specifiers_by (stream_of I.machine) (N.reads nested.now I.State I.machine) true (code_of code) (state_of I.state p.old)) }
-    ensures shorter { Falls result (spec.bound (stream_of I.machine) (state_of I.state p.new)) (spec.bound (stream_of I.machine) (state_of I.state p.old)) }
+    ensures value { ReadsBy I.machine I.state (N.reads nested.now) p.old p.new result
+        (λ x. map view_import_specifier x.items)
+        (λ m r. reads.specifiers_by m r true (code_of code)) }
+    ensures shorter { Shorter I.machine I.state p.old p.new result }
 {
     let mut list = Vec::new(p.alloc);
     'turns: while import_turn(p, nested, code, &mut list)? {}
@@ -140,8 +149,9 @@ pub fn star_import<'a, I: Tokens<'a> + Drop, N: Nested<'a, I>>(
     nested: &N,
     code: Around,
 ) -> Result<ImportSpecifier, Failure>
-    ensures value { Gives (λ x. (view_import_specifier x, state_of I.state p.new)) (spec.bound (stream_of I.machine) (state_of I.state p.new)) result (reads.star_import (stream_of I.machine) (N.reads nested.now I.State I.machine) (code_of code) (state_of I.state p.old)) }
-    ensures shorter { Falls result (spec.bound (stream_of I.machine) (state_of I.state p.new)) (spec.bound (stream_of I.machine) (state_of I.state p.old)) }
+    ensures value { ReadsBy I.machine I.state (N.reads nested.now) p.old p.new result
+        view_import_specifier (λ m r. reads.star_import m r (code_of code)) }
+    ensures shorter { Shorter I.machine I.state p.old p.new result }
 {
     let start = p.lo();
     p.expect(kinds::MUL)?;
@@ -164,9 +174,11 @@ pub fn import_end<'a, I: Tokens<'a> + Drop, N: Nested<'a, I>>(
     specifiers: Vec<ImportSpecifier>,
 ) -> Result<ImportDecl, Failure>
     requires ready { N.ready nested.now }
-    ensures value { Gives (λ x. (view_import_decl inner x, state_of I.state p.new)) (spec.bound (stream_of I.machine) (state_of I.state p.new)) result (reads.import_end (stream_of I.machine) (N.reads nested.now I.State I.machine) (code_of code) (from start.0) (map view_import_specifier specifiers.items) (state_of I.state p.old)) }
+    ensures value { ReadsBy I.machine I.state (N.reads nested.now) p.old p.new result
+        (view_import_decl inner)
+        (λ m r. reads.import_end m r (code_of code) (from start.0) (map view_import_specifier specifiers.items)) }
     ensures fits { IfOk result (λ x. fits_import_decl (λ p. p) x) }
-    ensures shorter { Falls result (spec.bound (stream_of I.machine) (state_of I.state p.new)) (spec.bound (stream_of I.machine) (state_of I.state p.old)) }
+    ensures shorter { Shorter I.machine I.state p.old p.new result }
 {
     p.eat_word(code, kinds::FROM)?;
     let from = source(p, nested, code)?;
@@ -190,9 +202,11 @@ pub fn import_star<'a, I: Tokens<'a> + Drop, N: Nested<'a, I>>(
 ) -> Result<ImportDecl, Failure>
     requires ready { N.ready nested.now }
     requires star { spec.at (stream_of I.machine) mul_kind (state_of I.state p.old) ≡ true }
-    ensures value { Gives (λ x. (view_import_decl inner x, state_of I.state p.new)) (spec.bound (stream_of I.machine) (state_of I.state p.new)) result (reads.import_rest (stream_of I.machine) (N.reads nested.now I.State I.machine) (code_of code) (from start.0) (first_of first) (state_of I.state p.old)) }
+    ensures value { ReadsBy I.machine I.state (N.reads nested.now) p.old p.new result
+        (view_import_decl inner)
+        (λ m r. reads.import_rest m r (code_of code) (from start.0) (first_of first)) }
     ensures fits { IfOk result (λ x. fits_import_decl (λ p. p) x) }
-    ensures shorter { Falls result (spec.bound (stream_of I.machine) (state_of I.state p.new)) (spec.bound (stream_of I.machine) (state_of I.state p.old)) }
+    ensures shorter { Shorter I.machine I.state p.old p.new result }
 {
     let star = star_import(p, nested, code)?;
     let mut specifiers = Vec::new(p.alloc);
@@ -208,7 +222,8 @@ pub fn in_front(
     first: Option<ImportSpecifier>,
     mut specifiers: Vec<ImportSpecifier>,
 ) -> Result<Vec<ImportSpecifier>, Failure>
-    ensures value { IfOk result (λ x. map view_import_specifier x.items ≡ first_of first ++ map view_import_specifier specifiers.items) }
+    ensures value { IfOk result (λ x. map view_import_specifier x.items ≡ first_of first
+        ++ map view_import_specifier specifiers.items) }
     ensures full { IfErr result IsMemory }
 {
     if let Some(first) = first {
@@ -228,9 +243,11 @@ pub fn import_rest<'a, I: Tokens<'a> + Drop, N: Nested<'a, I>>(
     first: Option<ImportSpecifier>,
 ) -> Result<ImportDecl, Failure>
     requires ready { N.ready nested.now }
-    ensures value { Gives (λ x. (view_import_decl inner x, state_of I.state p.new)) (spec.bound (stream_of I.machine) (state_of I.state p.new)) result (reads.import_rest (stream_of I.machine) (N.reads nested.now I.State I.machine) (code_of code) (from start.0) (first_of first) (state_of I.state p.old)) }
+    ensures value { ReadsBy I.machine I.state (N.reads nested.now) p.old p.new result
+        (view_import_decl inner)
+        (λ m r. reads.import_rest m r (code_of code) (from start.0) (first_of first)) }
     ensures fits { IfOk result (λ x. fits_import_decl (λ p. p) x) }
-    ensures shorter { Falls result (spec.bound (stream_of I.machine) (state_of I.state p.new)) (spec.bound (stream_of I.machine) (state_of I.state p.old)) }
+    ensures shorter { Shorter I.machine I.state p.old p.new result }
 {
     if p.at(kinds::MUL) {
         return import_star(p, nested, code, start, first);
@@ -250,9 +267,10 @@ pub fn import_default<'a, I: Tokens<'a> + Drop, N: Nested<'a, I>>(
     start: BytePos,
 ) -> Result<ImportDecl, Failure>
     requires ready { N.ready nested.now }
-    ensures value { Gives (λ x. (view_import_decl inner x, state_of I.state p.new)) (spec.bound (stream_of I.machine) (state_of I.state p.new)) result (reads.import_default (stream_of I.machine) (N.reads nested.now I.State I.machine) (code_of code) (from start.0) (state_of I.state p.old)) }
+    ensures value { ReadsBy I.machine I.state (N.reads nested.now) p.old p.new result
+        (view_import_decl inner) (λ m r. reads.import_default m r (code_of code) (from start.0)) }
     ensures fits { IfOk result (λ x. fits_import_decl (λ p. p) x) }
-    ensures shorter { Falls result (spec.bound (stream_of I.machine) (state_of I.state p.new)) (spec.bound (stream_of I.machine) (state_of I.state p.old)) }
+    ensures shorter { Shorter I.machine I.state p.old p.new result }
 {
     let span = p.place();
     let local = local(p, nested, code)?;
@@ -274,9 +292,10 @@ pub fn import_decl<'a, I: Tokens<'a> + Drop, N: Nested<'a, I>>(
     code: Around,
 ) -> Result<ImportDecl, Failure>
     requires ready { N.ready nested.now }
-    ensures value { Gives (λ x. (view_import_decl inner x, state_of I.state p.new)) (spec.bound (stream_of I.machine) (state_of I.state p.new)) result (reads.import_decl_by (stream_of I.machine) (N.reads nested.now I.State I.machine) (code_of code) (state_of I.state p.old)) }
+    ensures value { ReadsBy I.machine I.state (N.reads nested.now) p.old p.new result
+        (view_import_decl inner) (λ m r. reads.import_decl_by m r (code_of code)) }
     ensures fits { IfOk result (λ x. fits_import_decl (λ p. p) x) }
-    ensures shorter { Falls result (spec.bound (stream_of I.machine) (state_of I.state p.new)) (spec.bound (stream_of I.machine) (state_of I.state p.old)) }
+    ensures shorter { Shorter I.machine I.state p.old p.new result }
 {
     let start = p.lo();
     p.eat_word(code, kinds::IMPORT)?;

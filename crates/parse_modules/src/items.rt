@@ -6,10 +6,13 @@ ghost use Rattle.tree_nodes.specs.Placed.{holds_stmt, inner};
 ghost use Rattle.tree_nodes.specs.View.{view_module_item};
 ghost use Rattle.grammar_spec.specs.Reader.Source as spec;
 ghost use Rattle.grammar_spec.specs.Reader.Modules as reads;
-ghost use Rattle.parse_state.specs.Answers.{Falls, Gives, going_on, IsMemory, IsSyntax, Stays};
+ghost use Rattle.parse_state.specs.Answers.{going_on, IsMemory, IsSyntax};
 ghost use Rattle.parse_state.specs.Codes.{code_of};
 ghost use Rattle.parse_state.specs.Cursors.{stream_of};
 ghost use Rattle.parse_state.specs.States.{state_of};
+ghost use Rattle.parse_state.specs.Reads.{to_come, Shorter, NotLonger};
+ghost use Rattle.parse_operands.specs.Rules.{ReadsBy};
+ghost use Rattle.parse_operands.specs.Operands.{tree_in};
 ghost use Rattle.parse_modules.specs.Items.{items_by, items_of, FitItems};
 
 use crate::after_export::export;
@@ -43,7 +46,8 @@ pub fn starts_import<'a, I: Tokens<'a> + Drop, N: Nested<'a, I>>(
     p: &Parser<'a, I>,
     _nested: &N,
 ) -> Result<bool, Failure>
-    ensures value { IfOk result (λ b. b ≡ reads.starts_import (stream_of I.machine) (N.reads _nested.now I.State I.machine) (state_of I.state p.now)) }
+    ensures value { IfOk result (λ b. b ≡ reads.starts_import (stream_of I.machine)
+        (N.reads _nested.now I.State I.machine) (state_of I.state p.now)) }
     ensures full { IfErr result IsMemory }
 {
     if !p.at(kinds::IMPORT) {
@@ -72,9 +76,10 @@ pub fn script_item<'a, I: Tokens<'a> + Drop, N: Nested<'a, I>>(
     code: Around,
 ) -> Result<StmtBox, Failure>
     requires ready { N.ready nested.now }
-    ensures value { Gives (λ x. (inner x.part.value, state_of I.state p.new)) (spec.bound (stream_of I.machine) (state_of I.state p.new)) result (reads.item_by (stream_of I.machine) (N.reads nested.now I.State I.machine) false (code_of code) (state_of I.state p.old)) }
+    ensures value { ReadsBy I.machine I.state (N.reads nested.now) p.old p.new result
+        tree_in (λ m r. reads.item_by m r false (code_of code)) }
     ensures holds { IfOk result (λ x. holds_stmt x.part.value) }
-    ensures shorter { Falls result (spec.bound (stream_of I.machine) (state_of I.state p.new)) (spec.bound (stream_of I.machine) (state_of I.state p.old)) }
+    ensures shorter { Shorter I.machine I.state p.old p.new result }
 {
     if starts_import(p, nested)? || p.at(kinds::EXPORT) {
         return Err(module_declaration(p.place()));
@@ -91,9 +96,10 @@ pub fn module_item<'a, I: Tokens<'a> + Drop, N: Nested<'a, I>>(
     code: Around,
 ) -> Result<ModuleItem, Failure>
     requires ready { N.ready nested.now }
-    ensures value { Gives (λ x. (view_module_item inner x, state_of I.state p.new)) (spec.bound (stream_of I.machine) (state_of I.state p.new)) result (reads.item_by (stream_of I.machine) (N.reads nested.now I.State I.machine) true (code_of code) (state_of I.state p.old)) }
+    ensures value { ReadsBy I.machine I.state (N.reads nested.now) p.old p.new result
+        (view_module_item inner) (λ m r. reads.item_by m r true (code_of code)) }
     ensures fits { IfOk result (λ x. fits_module_item (λ p. p) x) }
-    ensures shorter { Falls result (spec.bound (stream_of I.machine) (state_of I.state p.new)) (spec.bound (stream_of I.machine) (state_of I.state p.old)) }
+    ensures shorter { Shorter I.machine I.state p.old p.new result }
 {
     if starts_import(p, nested)? {
         let decl = import_decl(p, nested, code)?;
@@ -139,9 +145,11 @@ pub fn next_item<'a, I: Tokens<'a> + Drop, N: Nested<'a, I>>(
 ) -> Result<(), Failure>
     requires ready { N.ready nested.now }
     requires fits { FitItems body.old }
-    ensures value { Gives (λ _. (spec.go_on (items_of body.new), state_of I.state p.new)) (spec.bound (stream_of I.machine) (state_of I.state p.new)) result (reads.program_item (stream_of I.machine) (N.reads nested.now I.State I.machine) true (items_of body.old) (state_of I.state p.old)) }
+    ensures value { ReadsBy I.machine I.state (N.reads nested.now) p.old p.new result
+        (λ _. spec.go_on (items_of body.new))
+        (λ m r. reads.program_item m r true (items_of body.old)) }
     ensures fits { IfOk result (λ _. FitItems body.new) }
-    ensures shorter { Falls result (spec.bound (stream_of I.machine) (state_of I.state p.new)) (spec.bound (stream_of I.machine) (state_of I.state p.old)) }
+    ensures shorter { Shorter I.machine I.state p.old p.new result }
 {
     let item = module_item(p, nested, in_list(body.code))?;
     if body.starts && turns_strict(&item) {
@@ -164,10 +172,12 @@ pub fn item_turn<'a, I: Tokens<'a> + Drop, N: Nested<'a, I>>(
 ) -> Result<bool, Failure>
     requires ready { N.ready nested.now }
     requires fits { FitItems body.old }
-    ensures value { Gives (λ x. (going_on x (items_of body.new), state_of I.state p.new)) (spec.bound (stream_of I.machine) (state_of I.state p.new)) result (reads.program_step (stream_of I.machine) (N.reads nested.now I.State I.machine) true (items_of body.old) (state_of I.state p.old)) }
+    ensures value { ReadsBy I.machine I.state (N.reads nested.now) p.old p.new result
+        (λ x. going_on x (items_of body.new))
+        (λ m r. reads.program_step m r true (items_of body.old)) }
     ensures fits { IfOk result (λ _. FitItems body.new) }
-    ensures shorter { IfOk result (λ b. IsTrue b → spec.bound (stream_of I.machine) (state_of I.state p.new) < spec.bound (stream_of I.machine) (state_of I.state p.old)) }
-    ensures not_longer { Stays result (spec.bound (stream_of I.machine) (state_of I.state p.new)) (spec.bound (stream_of I.machine) (state_of I.state p.old)) }
+    ensures shorter { IfOk result (λ b. IsTrue b → to_come I.machine I.state p.new < to_come I.machine I.state p.old) }
+    ensures not_longer { NotLonger I.machine I.state p.old p.new result }
 {
     if ended(p) {
         return Ok(false);
@@ -186,9 +196,10 @@ pub fn module_items<'a, I: Tokens<'a> + Drop, N: Nested<'a, I>>(
     code: Around,
 ) -> Result<ItemsSoFar, Failure>
     requires ready { N.ready nested.now }
-    ensures value { Gives (λ x. (items_of x, state_of I.state p.new)) (spec.bound (stream_of I.machine) (state_of I.state p.new)) result (items_by (stream_of I.machine) (N.reads nested.now I.State I.machine) true (code_of code) (state_of I.state p.old)) }
+    ensures value { ReadsBy I.machine I.state (N.reads nested.now) p.old p.new result
+        items_of (λ m r. items_by m r true (code_of code)) }
     ensures fits { IfOk result (λ x. FitItems x) }
-    ensures not_longer { Stays result (spec.bound (stream_of I.machine) (state_of I.state p.new)) (spec.bound (stream_of I.machine) (state_of I.state p.old)) }
+    ensures not_longer { NotLonger I.machine I.state p.old p.new result }
 {
     let mut read = ItemsSoFar {
         items: Vec::new(p.alloc),

@@ -3,12 +3,10 @@ ghost use Rattle.std.specs.Prelude.{◌≡◌, false, true, IfOk};
 ghost use Rattle.tree_nodes.specs.Fits.{fits_object_lit};
 ghost use Rattle.tree_nodes.specs.Placed.{inner};
 ghost use Rattle.tree_nodes.specs.View.{view_ident, view_module_export_name, view_object_lit, view_str};
-ghost use Rattle.grammar_spec.specs.Reader.Source as spec;
 ghost use Rattle.grammar_spec.specs.Reader.Modules as reads;
-ghost use Rattle.parse_state.specs.Answers.{Falls, Gives};
 ghost use Rattle.parse_state.specs.Codes.{code_of};
-ghost use Rattle.parse_state.specs.Cursors.{stream_of};
-ghost use Rattle.parse_state.specs.States.{state_of};
+ghost use Rattle.parse_state.specs.Reads.{Shorter};
+ghost use Rattle.parse_operands.specs.Rules.{ReadsBy};
 ghost use Rattle.parse_modules.specs.Sources.{from_of, FitSourced};
 
 use crate::made;
@@ -34,8 +32,9 @@ pub fn string<'a, I: Tokens<'a> + Drop, N: Nested<'a, I>>(
     p: &mut Parser<'a, I>,
     _nested: &N,
 ) -> Result<Str, Failure>
-    ensures value { Gives (λ x. (view_str x, state_of I.state p.new)) (spec.bound (stream_of I.machine) (state_of I.state p.new)) result (reads.string_by (stream_of I.machine) (N.reads _nested.now I.State I.machine) (state_of I.state p.old)) }
-    ensures shorter { Falls result (spec.bound (stream_of I.machine) (state_of I.state p.new)) (spec.bound (stream_of I.machine) (state_of I.state p.old)) }
+    ensures value { ReadsBy I.machine I.state (N.reads _nested.now) p.old p.new result
+        view_str (λ m r. reads.string_by m r) }
+    ensures shorter { Shorter I.machine I.state p.old p.new result }
 {
     let span = p.place();
     let fault = p.unexpected();
@@ -58,8 +57,9 @@ pub fn export_name<'a, I: Tokens<'a> + Drop, N: Nested<'a, I>>(
     p: &mut Parser<'a, I>,
     nested: &N,
 ) -> Result<ModuleExportName, Failure>
-    ensures value { Gives (λ x. (view_module_export_name x, state_of I.state p.new)) (spec.bound (stream_of I.machine) (state_of I.state p.new)) result (reads.export_name_by (stream_of I.machine) (N.reads nested.now I.State I.machine) (state_of I.state p.old)) }
-    ensures shorter { Falls result (spec.bound (stream_of I.machine) (state_of I.state p.new)) (spec.bound (stream_of I.machine) (state_of I.state p.old)) }
+    ensures value { ReadsBy I.machine I.state (N.reads nested.now) p.old p.new result
+        view_module_export_name (λ m r. reads.export_name_by m r) }
+    ensures shorter { Shorter I.machine I.state p.old p.new result }
 {
     if p.at(kinds::STR) {
         let text = string(p, nested)?;
@@ -77,8 +77,9 @@ pub fn local<'a, I: Tokens<'a> + Drop, N: Nested<'a, I>>(
     _nested: &N,
     code: Around,
 ) -> Result<Ident, Failure>
-    ensures value { Gives (λ x. (view_ident x, state_of I.state p.new)) (spec.bound (stream_of I.machine) (state_of I.state p.new)) result (reads.local_by (stream_of I.machine) (N.reads _nested.now I.State I.machine) (code_of code) (state_of I.state p.old)) }
-    ensures shorter { Falls result (spec.bound (stream_of I.machine) (state_of I.state p.new)) (spec.bound (stream_of I.machine) (state_of I.state p.old)) }
+    ensures value { ReadsBy I.machine I.state (N.reads _nested.now) p.old p.new result
+        view_ident (λ m r. reads.local_by m r (code_of code)) }
+    ensures shorter { Shorter I.machine I.state p.old p.new result }
 {
     let span = p.place();
     let sym = p.name(code)?;
@@ -94,9 +95,10 @@ pub fn attributes<'a, I: Tokens<'a> + Drop, N: Nested<'a, I>>(
     code: Around,
 ) -> Result<Box<ObjectLit>, Failure>
     requires ready { N.ready nested.now }
-    ensures value { Gives (λ x. (view_object_lit inner x.value, state_of I.state p.new)) (spec.bound (stream_of I.machine) (state_of I.state p.new)) result (reads.attributes_by (stream_of I.machine) (N.reads nested.now I.State I.machine) (code_of code) (state_of I.state p.old)) }
+    ensures value { ReadsBy I.machine I.state (N.reads nested.now) p.old p.new result
+        (λ x. view_object_lit inner x.value) (λ m r. reads.attributes_by m r (code_of code)) }
     ensures fits { IfOk result (λ x. fits_object_lit (λ p. p) x.value) }
-    ensures shorter { Falls result (spec.bound (stream_of I.machine) (state_of I.state p.new)) (spec.bound (stream_of I.machine) (state_of I.state p.old)) }
+    ensures shorter { Shorter I.machine I.state p.old p.new result }
 {
     if !p.at(kinds::LEFT_BRACE) {
         return Err(p.unexpected());
@@ -117,9 +119,10 @@ pub fn source<'a, I: Tokens<'a> + Drop, N: Nested<'a, I>>(
     code: Around,
 ) -> Result<Sourced, Failure>
     requires ready { N.ready nested.now }
-    ensures value { Gives (λ x. (from_of x, state_of I.state p.new)) (spec.bound (stream_of I.machine) (state_of I.state p.new)) result (reads.source_by (stream_of I.machine) (N.reads nested.now I.State I.machine) (code_of code) (state_of I.state p.old)) }
+    ensures value { ReadsBy I.machine I.state (N.reads nested.now) p.old p.new result
+        from_of (λ m r. reads.source_by m r (code_of code)) }
     ensures fits { IfOk result (λ x. FitSourced x) }
-    ensures shorter { Falls result (spec.bound (stream_of I.machine) (state_of I.state p.new)) (spec.bound (stream_of I.machine) (state_of I.state p.old)) }
+    ensures shorter { Shorter I.machine I.state p.old p.new result }
 {
     let text = string(p, nested)?;
     let src = Box::new(p.alloc, text)?;

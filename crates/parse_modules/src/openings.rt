@@ -16,7 +16,8 @@ pub fn starts_declaration<'a, I: Tokens<'a> + Drop, N: Nested<'a, I>>(
     nested: &N,
     code: Around,
 ) -> Result<bool, Failure>
-    ensures value { IfOk result (λ b. b ≡ reads.starts_declaration (stream_of I.machine) (N.reads nested.now I.State I.machine) (code_of code) (state_of I.state p.now)) }
+    ensures value { IfOk result (λ b. b ≡ reads.starts_declaration (stream_of I.machine)
+        (N.reads nested.now I.State I.machine) (code_of code) (state_of I.state p.now)) }
     ensures full { IfErr result IsMemory }
 {
     if p.at(kinds::FUNCTION) || p.at(kinds::CLASS) || starts_async(p, nested)? {

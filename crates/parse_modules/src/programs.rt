@@ -4,12 +4,12 @@ ghost use Rattle.grammar_spec.specs.Tokens.Input.{content};
 ghost use Rattle.tree_nodes.specs.Fits.{fits_module, fits_script};
 ghost use Rattle.tree_nodes.specs.Placed.{inner};
 ghost use Rattle.tree_nodes.specs.View.{view_module, view_script};
-ghost use Rattle.grammar_spec.specs.Reader.Source as spec;
 ghost use Rattle.grammar_spec.specs.Reader.Modules as reads;
-ghost use Rattle.parse_state.specs.Answers.{Gives, Stays};
 ghost use Rattle.parse_state.specs.Codes.{code_of};
 ghost use Rattle.parse_state.specs.Cursors.{stream_of};
-ghost use Rattle.parse_state.specs.States.{from, state_of};
+ghost use Rattle.parse_state.specs.States.{from};
+ghost use Rattle.parse_state.specs.Reads.{at_hand, NotLonger};
+ghost use Rattle.parse_operands.specs.Rules.{ReadsBy};
 ghost use Rattle.parse_modules.specs.Items.{items_by};
 ghost use Rattle.parse_modules.specs.Lines.{led_by, line_by};
 
@@ -31,9 +31,11 @@ pub fn script_rest<'a, I: Tokens<'a> + Drop, N: Nested<'a, I>>(
     shebang: Option<Atom>,
 ) -> Result<Script, Failure>
     requires ready { N.ready nested.now }
-    ensures value { Gives (λ x. (view_script inner x, state_of I.state p.new)) (spec.bound (stream_of I.machine) (state_of I.state p.new)) result (reads.program_rest (stream_of I.machine) (N.reads nested.now I.State I.machine) false (code_of code) (from start.0) shebang (state_of I.state p.old)) }
+    ensures value { ReadsBy I.machine I.state (N.reads nested.now) p.old p.new result
+        (view_script inner)
+        (λ m r. reads.program_rest m r false (code_of code) (from start.0) shebang) }
     ensures fits { IfOk result (λ x. fits_script (λ p. p) x) }
-    ensures not_longer { Stays result (spec.bound (stream_of I.machine) (state_of I.state p.new)) (spec.bound (stream_of I.machine) (state_of I.state p.old)) }
+    ensures not_longer { NotLonger I.machine I.state p.old p.new result }
 {
     let read = script_items(p, nested, code)?;
     Ok(Script {
@@ -54,9 +56,11 @@ pub fn module_rest<'a, I: Tokens<'a> + Drop, N: Nested<'a, I>>(
     shebang: Option<Atom>,
 ) -> Result<Module, Failure>
     requires ready { N.ready nested.now }
-    ensures value { Gives (λ x. (view_module inner x, state_of I.state p.new)) (spec.bound (stream_of I.machine) (state_of I.state p.new)) result (reads.program_rest (stream_of I.machine) (N.reads nested.now I.State I.machine) true (code_of code) (from start.0) shebang (state_of I.state p.old)) }
+    ensures value { ReadsBy I.machine I.state (N.reads nested.now) p.old p.new result
+        (view_module inner)
+        (λ m r. reads.program_rest m r true (code_of code) (from start.0) shebang) }
     ensures fits { IfOk result (λ x. fits_module (λ p. p) x) }
-    ensures not_longer { Stays result (spec.bound (stream_of I.machine) (state_of I.state p.new)) (spec.bound (stream_of I.machine) (state_of I.state p.old)) }
+    ensures not_longer { NotLonger I.machine I.state p.old p.new result }
 {
     let read = module_items(p, nested, code)?;
     Ok(Module {
@@ -72,7 +76,9 @@ fn hashbang<'p, 'a, I: Tokens<'a> + Drop, N: Nested<'a, I>>(
     p: &'p Parser<'a, I>,
     _nested: &N,
 ) -> Option<&'p str>
-    ensures { option_map (λ t. t.now) result ≡ reads.line_of (stream_of I.machine) (N.reads _nested.now I.State I.machine) (content (spec.input (stream_of I.machine) (state_of I.state p.now))) }
+    ensures { option_map (λ t. t.now) result
+        ≡ reads.line_of (stream_of I.machine) (N.reads _nested.now I.State I.machine)
+        (content (at_hand I.machine I.state p.now)) }
 {
     match &p.ahead.token {
         Some(token) => match &token.token {
@@ -90,8 +96,9 @@ pub fn line<'a, I: Tokens<'a> + Drop, N: Nested<'a, I>>(
     p: &mut Parser<'a, I>,
     nested: &N,
 ) -> Result<Atom, Failure>
-    ensures value { Gives (λ x. (x, state_of I.state p.new)) (spec.bound (stream_of I.machine) (state_of I.state p.new)) result (line_by (stream_of I.machine) (N.reads nested.now I.State I.machine) (state_of I.state p.old)) }
-    ensures not_longer { Stays result (spec.bound (stream_of I.machine) (state_of I.state p.new)) (spec.bound (stream_of I.machine) (state_of I.state p.old)) }
+    ensures value { ReadsBy I.machine I.state (N.reads nested.now) p.old p.new result
+        (λ x. x) (λ m r. line_by m r) }
+    ensures not_longer { NotLonger I.machine I.state p.old p.new result }
 {
     let Some(text) = hashbang(p, nested) else {
         return Err(p.unexpected());
@@ -111,9 +118,10 @@ pub fn led_script<'a, I: Tokens<'a> + Drop, N: Nested<'a, I>>(
     start: BytePos,
 ) -> Result<Script, Failure>
     requires ready { N.ready nested.now }
-    ensures value { Gives (λ x. (view_script inner x, state_of I.state p.new)) (spec.bound (stream_of I.machine) (state_of I.state p.new)) result (led_by (stream_of I.machine) (N.reads nested.now I.State I.machine) false (code_of code) (from start.0) (state_of I.state p.old)) }
+    ensures value { ReadsBy I.machine I.state (N.reads nested.now) p.old p.new result
+        (view_script inner) (λ m r. led_by m r false (code_of code) (from start.0)) }
     ensures fits { IfOk result (λ x. fits_script (λ p. p) x) }
-    ensures not_longer { Stays result (spec.bound (stream_of I.machine) (state_of I.state p.new)) (spec.bound (stream_of I.machine) (state_of I.state p.old)) }
+    ensures not_longer { NotLonger I.machine I.state p.old p.new result }
 {
     let text = line(p, nested)?;
     script_rest(p, nested, code, start, Some(text))
@@ -129,9 +137,10 @@ pub fn led_module<'a, I: Tokens<'a> + Drop, N: Nested<'a, I>>(
     start: BytePos,
 ) -> Result<Module, Failure>
     requires ready { N.ready nested.now }
-    ensures value { Gives (λ x. (view_module inner x, state_of I.state p.new)) (spec.bound (stream_of I.machine) (state_of I.state p.new)) result (led_by (stream_of I.machine) (N.reads nested.now I.State I.machine) true (code_of code) (from start.0) (state_of I.state p.old)) }
+    ensures value { ReadsBy I.machine I.state (N.reads nested.now) p.old p.new result
+        (view_module inner) (λ m r. led_by m r true (code_of code) (from start.0)) }
     ensures fits { IfOk result (λ x. fits_module (λ p. p) x) }
-    ensures not_longer { Stays result (spec.bound (stream_of I.machine) (state_of I.state p.new)) (spec.bound (stream_of I.machine) (state_of I.state p.old)) }
+    ensures not_longer { NotLonger I.machine I.state p.old p.new result }
 {
     let text = line(p, nested)?;
     module_rest(p, nested, code, start, Some(text))
@@ -146,9 +155,10 @@ pub fn script<'a, I: Tokens<'a> + Drop, N: Nested<'a, I>>(
     code: Around,
 ) -> Result<Script, Failure>
     requires ready { N.ready nested.now }
-    ensures value { Gives (λ x. (view_script inner x, state_of I.state p.new)) (spec.bound (stream_of I.machine) (state_of I.state p.new)) result (reads.program_by (stream_of I.machine) (N.reads nested.now I.State I.machine) false (code_of code) (state_of I.state p.old)) }
+    ensures value { ReadsBy I.machine I.state (N.reads nested.now) p.old p.new result
+        (view_script inner) (λ m r. reads.program_by m r false (code_of code)) }
     ensures fits { IfOk result (λ x. fits_script (λ p. p) x) }
-    ensures not_longer { Stays result (spec.bound (stream_of I.machine) (state_of I.state p.new)) (spec.bound (stream_of I.machine) (state_of I.state p.old)) }
+    ensures not_longer { NotLonger I.machine I.state p.old p.new result }
 {
     let start = p.lo();
     if p.at(kinds::SHEBANG) {
@@ -166,9 +176,10 @@ pub fn module<'a, I: Tokens<'a> + Drop, N: Nested<'a, I>>(
     code: Around,
 ) -> Result<Module, Failure>
     requires ready { N.ready nested.now }
-    ensures value { Gives (λ x. (view_module inner x, state_of I.state p.new)) (spec.bound (stream_of I.machine) (state_of I.state p.new)) result (reads.program_by (stream_of I.machine) (N.reads nested.now I.State I.machine) true (code_of code) (state_of I.state p.old)) }
+    ensures value { ReadsBy I.machine I.state (N.reads nested.now) p.old p.new result
+        (view_module inner) (λ m r. reads.program_by m r true (code_of code)) }
     ensures fits { IfOk result (λ x. fits_module (λ p. p) x) }
-    ensures not_longer { Stays result (spec.bound (stream_of I.machine) (state_of I.state p.new)) (spec.bound (stream_of I.machine) (state_of I.state p.old)) }
+    ensures not_longer { NotLonger I.machine I.state p.old p.new result }
 {
     let start = p.lo();
     if p.at(kinds::SHEBANG) {

@@ -54,6 +54,7 @@ pub fn is_attributes(object: &ObjectLit) -> bool
 }
 
 /// An object, apart from other expressions.
+// For the proof: a function of its own, whose clauses say what a match on all kinds comes to.
 fn as_object(kind: ExprKind) -> Result<ObjectLit, ExprKind>
     requires { fits_expr_kind (λ p. p) kind }
     ensures object { IfOk result (λ o. view_expr_kind inner kind ≡ view_object_lit inner o) }
@@ -70,7 +71,9 @@ fn as_object(kind: ExprKind) -> Result<ObjectLit, ExprKind>
 /// The object that may stand for attributes.
 fn attributes_of(kind: ExprKind) -> Option<ObjectLit>
     requires { fits_expr_kind (λ p. p) kind }
-    ensures { MatchOption result (shape.is_attributes (view_expr_kind inner kind) ≡ false) (λ o. (shape.is_attributes (view_expr_kind inner kind) ≡ true) × (view_expr_kind inner kind ≡ view_object_lit inner o) × fits_object_lit (λ p. p) o) }
+    ensures { MatchOption result (shape.is_attributes (view_expr_kind inner kind) ≡ false)
+        (λ o. (shape.is_attributes (view_expr_kind inner kind) ≡ true)
+        × (view_expr_kind inner kind ≡ view_object_lit inner o) × fits_object_lit (λ p. p) o) }
 {
     let Ok(object) = as_object(kind) else {
         return None;
@@ -84,7 +87,9 @@ fn attributes_of(kind: ExprKind) -> Option<ObjectLit>
 
 /// The object that may stand for attributes, out of an expression.
 pub fn attributes_in(read: Operand) -> Option<ObjectLit>
-    ensures { MatchOption result (shape.is_attributes (tree_of read) ≡ false) (λ o. (shape.is_attributes (tree_of read) ≡ true) × (tree_of read ≡ view_object_lit inner o) × fits_object_lit (λ p. p) o) }
+    ensures { MatchOption result (shape.is_attributes (tree_of read) ≡ false)
+        (λ o. (shape.is_attributes (tree_of read) ≡ true) × (tree_of read ≡ view_object_lit inner o)
+        × fits_object_lit (λ p. p) o) }
 {
     attributes_of(read.expr.into_inner().kind)
 }

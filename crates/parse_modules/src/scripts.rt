@@ -2,10 +2,10 @@
 ghost use Rattle.std.specs.Prelude.{◌≡◌, ◌<◌, false, true, IfOk, IsTrue};
 ghost use Rattle.grammar_spec.specs.Reader.Source as spec;
 ghost use Rattle.grammar_spec.specs.Reader.Modules as reads;
-ghost use Rattle.parse_state.specs.Answers.{Falls, Gives, going_on, Stays};
+ghost use Rattle.parse_state.specs.Answers.{going_on};
 ghost use Rattle.parse_state.specs.Codes.{code_of};
-ghost use Rattle.parse_state.specs.Cursors.{stream_of};
-ghost use Rattle.parse_state.specs.States.{state_of};
+ghost use Rattle.parse_state.specs.Reads.{to_come, Shorter, NotLonger};
+ghost use Rattle.parse_operands.specs.Rules.{ReadsBy};
 ghost use Rattle.parse_blocks.specs.Lists.{body_of, FitBody};
 ghost use Rattle.parse_modules.specs.Items.{items_by};
 
@@ -27,9 +27,11 @@ pub fn next_stmt<'a, I: Tokens<'a> + Drop, N: Nested<'a, I>>(
 ) -> Result<(), Failure>
     requires ready { N.ready nested.now }
     requires fits { FitBody body.old }
-    ensures value { Gives (λ _. (spec.go_on (body_of body.new), state_of I.state p.new)) (spec.bound (stream_of I.machine) (state_of I.state p.new)) result (reads.program_item (stream_of I.machine) (N.reads nested.now I.State I.machine) false (body_of body.old) (state_of I.state p.old)) }
+    ensures value { ReadsBy I.machine I.state (N.reads nested.now) p.old p.new result
+        (λ _. spec.go_on (body_of body.new))
+        (λ m r. reads.program_item m r false (body_of body.old)) }
     ensures fits { IfOk result (λ _. FitBody body.new) }
-    ensures shorter { Falls result (spec.bound (stream_of I.machine) (state_of I.state p.new)) (spec.bound (stream_of I.machine) (state_of I.state p.old)) }
+    ensures shorter { Shorter I.machine I.state p.old p.new result }
 {
     let read = script_item(p, nested, in_list(body.code))?;
     if body.starts && is_use_strict(read.get()) {
@@ -52,10 +54,12 @@ pub fn stmt_turn<'a, I: Tokens<'a> + Drop, N: Nested<'a, I>>(
 ) -> Result<bool, Failure>
     requires ready { N.ready nested.now }
     requires fits { FitBody body.old }
-    ensures value { Gives (λ x. (going_on x (body_of body.new), state_of I.state p.new)) (spec.bound (stream_of I.machine) (state_of I.state p.new)) result (reads.program_step (stream_of I.machine) (N.reads nested.now I.State I.machine) false (body_of body.old) (state_of I.state p.old)) }
+    ensures value { ReadsBy I.machine I.state (N.reads nested.now) p.old p.new result
+        (λ x. going_on x (body_of body.new))
+        (λ m r. reads.program_step m r false (body_of body.old)) }
     ensures fits { IfOk result (λ _. FitBody body.new) }
-    ensures shorter { IfOk result (λ b. IsTrue b → spec.bound (stream_of I.machine) (state_of I.state p.new) < spec.bound (stream_of I.machine) (state_of I.state p.old)) }
-    ensures not_longer { Stays result (spec.bound (stream_of I.machine) (state_of I.state p.new)) (spec.bound (stream_of I.machine) (state_of I.state p.old)) }
+    ensures shorter { IfOk result (λ b. IsTrue b → to_come I.machine I.state p.new < to_come I.machine I.state p.old) }
+    ensures not_longer { NotLonger I.machine I.state p.old p.new result }
 {
     if ended(p) {
         return Ok(false);
@@ -74,9 +78,10 @@ pub fn script_items<'a, I: Tokens<'a> + Drop, N: Nested<'a, I>>(
     code: Around,
 ) -> Result<BodySoFar, Failure>
     requires ready { N.ready nested.now }
-    ensures value { Gives (λ x. (body_of x, state_of I.state p.new)) (spec.bound (stream_of I.machine) (state_of I.state p.new)) result (items_by (stream_of I.machine) (N.reads nested.now I.State I.machine) false (code_of code) (state_of I.state p.old)) }
+    ensures value { ReadsBy I.machine I.state (N.reads nested.now) p.old p.new result
+        body_of (λ m r. items_by m r false (code_of code)) }
     ensures fits { IfOk result (λ x. FitBody x) }
-    ensures not_longer { Stays result (spec.bound (stream_of I.machine) (state_of I.state p.new)) (spec.bound (stream_of I.machine) (state_of I.state p.old)) }
+    ensures not_longer { NotLonger I.machine I.state p.old p.new result }
 {
     let mut read = BodySoFar {
         items: Vec::new(p.alloc),

@@ -47,7 +47,8 @@ pub fn assign_prop(
     sym: Atom,
     value: Operand,
 ) -> Result<PropOrSpread, Failure>
-    ensures value { IfOk result (λ x. view_prop_or_spread inner x ≡ assign_prop span (ident place sym) (tree_of value)) }
+    ensures value { IfOk result (λ x. view_prop_or_spread inner x
+        ≡ assign_prop span (ident place sym) (tree_of value)) }
     ensures fits { IfOk result (λ x. fits_prop_or_spread (λ p. p) x) }
     ensures full { IfErr result IsMemory }
 {
@@ -68,7 +69,8 @@ pub fn key_value(
     value: Operand,
 ) -> Result<PropOrSpread, Failure>
     requires { fits_prop_name (λ p. p) key }
-    ensures value { IfOk result (λ x. view_prop_or_spread inner x ≡ key_value_prop span (view_prop_name inner key) (tree_of value)) }
+    ensures value { IfOk result (λ x. view_prop_or_spread inner x
+        ≡ key_value_prop span (view_prop_name inner key) (tree_of value)) }
     ensures fits { IfOk result (λ x. fits_prop_or_spread (λ p. p) x) }
     ensures full { IfErr result IsMemory }
 {
@@ -90,7 +92,8 @@ pub fn method(
 ) -> Result<PropOrSpread, Failure>
     requires key { fits_prop_name (λ p. p) key }
     requires function { fits_function (λ p. p) function.value }
-    ensures value { IfOk result (λ x. view_prop_or_spread inner x ≡ method_prop span (view_prop_name inner key) (view_function inner function.value)) }
+    ensures value { IfOk result (λ x. view_prop_or_spread inner x
+        ≡ method_prop span (view_prop_name inner key) (view_function inner function.value)) }
     ensures fits { IfOk result (λ x. fits_prop_or_spread (λ p. p) x) }
     ensures full { IfErr result IsMemory }
 {
@@ -112,7 +115,8 @@ pub fn getter(
 ) -> Result<PropOrSpread, Failure>
     requires key { fits_prop_name (λ p. p) key }
     requires body { fits_block_stmt (λ p. p) body }
-    ensures value { IfOk result (λ x. view_prop_or_spread inner x ≡ getter_prop span (view_prop_name inner key) (view_block_stmt inner body)) }
+    ensures value { IfOk result (λ x. view_prop_or_spread inner x
+        ≡ getter_prop span (view_prop_name inner key) (view_block_stmt inner body)) }
     ensures fits { IfOk result (λ x. fits_prop_or_spread (λ p. p) x) }
     ensures full { IfErr result IsMemory }
 {
@@ -132,7 +136,9 @@ pub fn setter(
     requires key { fits_prop_name (λ p. p) key }
     requires param { fits_param (λ p. p) param }
     requires body { fits_block_stmt (λ p. p) body }
-    ensures value { IfOk result (λ x. view_prop_or_spread inner x ≡ setter_prop span (view_prop_name inner key) (inner param.pat.part.value) (view_block_stmt inner body)) }
+    ensures value { IfOk result (λ x. view_prop_or_spread inner x
+        ≡ setter_prop span (view_prop_name inner key) (inner param.pat.part.value)
+        (view_block_stmt inner body)) }
     ensures fits { IfOk result (λ x. fits_prop_or_spread (λ p. p) x) }
     ensures full { IfErr result IsMemory }
 {

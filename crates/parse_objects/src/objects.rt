@@ -2,14 +2,13 @@
 ghost use Rattle.std.specs.Prelude.{◌≡◌, IfOk};
 ghost use Rattle.tree_nodes.specs.Placed.{inner};
 ghost use Rattle.tree_nodes.specs.View.{view_prop_or_spread};
-ghost use Rattle.grammar_spec.specs.Reader.Source as spec;
 ghost use Rattle.grammar_spec.specs.Reader.Cover.{is_rest_item};
 ghost use Rattle.grammar_spec.specs.Reader.Expressions as reads;
-ghost use Rattle.parse_state.specs.Answers.{Falls, Gives, going_on};
+ghost use Rattle.parse_state.specs.Answers.{going_on};
 ghost use Rattle.parse_state.specs.Codes.{code_of};
-ghost use Rattle.parse_state.specs.Cursors.{stream_of};
-ghost use Rattle.parse_state.specs.States.{state_of};
+ghost use Rattle.parse_state.specs.Reads.{Shorter};
 ghost use Rattle.parse_operands.specs.Operands.{tree_of};
+ghost use Rattle.parse_operands.specs.Rules.{ReadsBy};
 ghost use Rattle.parse_objects.specs.Lists.{FitProps, TellsRest, props_by, props_of};
 
 use crate::lists::Props;
@@ -42,10 +41,12 @@ pub fn prop_turn<'a, I: Tokens<'a> + Drop, N: Nested<'a, I>>(
     requires ready { N.ready nested.now }
     requires fits { FitProps list.old }
     requires rest { TellsRest list.old }
-    ensures value { Gives (λ x. (going_on x (props_of list.new), state_of I.state p.new)) (spec.bound (stream_of I.machine) (state_of I.state p.new)) result (reads.prop_step (stream_of I.machine) (N.reads nested.now I.State I.machine) (code_of code) (props_of list.old) (state_of I.state p.old)) }
+    ensures value { ReadsBy I.machine I.state (N.reads nested.now) p.old p.new result
+        (λ x. going_on x (props_of list.new))
+        (λ m r. reads.prop_step m r (code_of code) (props_of list.old)) }
     ensures fits { IfOk result (λ _. FitProps list.new) }
     ensures rest { IfOk result (λ _. TellsRest list.new) }
-    ensures shorter { Falls result (spec.bound (stream_of I.machine) (state_of I.state p.new)) (spec.bound (stream_of I.machine) (state_of I.state p.old)) }
+    ensures shorter { Shorter I.machine I.state p.old p.new result }
 {
     if p.eat(kinds::RIGHT_BRACE)? {
         return Ok(false);
@@ -66,10 +67,11 @@ pub fn props<'a, I: Tokens<'a> + Drop, N: Nested<'a, I>>(
     code: Around,
 ) -> Result<Props, Failure>
     requires ready { N.ready nested.now }
-    ensures value { Gives (λ x. (props_of x, state_of I.state p.new)) (spec.bound (stream_of I.machine) (state_of I.state p.new)) result (props_by (stream_of I.machine) (N.reads nested.now I.State I.machine) (code_of code) (state_of I.state p.old)) }
+    ensures value { ReadsBy I.machine I.state (N.reads nested.now) p.old p.new result
+        props_of (λ m r. props_by m r (code_of code)) }
     ensures fits { IfOk result (λ x. FitProps x) }
     ensures rest { IfOk result (λ x. TellsRest x) }
-    ensures shorter { Falls result (spec.bound (stream_of I.machine) (state_of I.state p.new)) (spec.bound (stream_of I.machine) (state_of I.state p.old)) }
+    ensures shorter { Shorter I.machine I.state p.old p.new result }
 {
     let mut list = Props {
         items: Vec::new(p.alloc),
@@ -89,8 +91,9 @@ pub fn object<'a, I: Tokens<'a> + Drop, N: Nested<'a, I>>(
     code: Around,
 ) -> Result<Operand, Failure>
     requires ready { N.ready nested.now }
-    ensures value { Gives (λ x. (tree_of x, state_of I.state p.new)) (spec.bound (stream_of I.machine) (state_of I.state p.new)) result (reads.object_by (stream_of I.machine) (N.reads nested.now I.State I.machine) (code_of code) (state_of I.state p.old)) }
-    ensures shorter { Falls result (spec.bound (stream_of I.machine) (state_of I.state p.new)) (spec.bound (stream_of I.machine) (state_of I.state p.old)) }
+    ensures value { ReadsBy I.machine I.state (N.reads nested.now) p.old p.new result
+        tree_of (λ m r. reads.object_by m r (code_of code)) }
+    ensures shorter { Shorter I.machine I.state p.old p.new result }
 {
     let start = p.lo();
     p.bump()?;

@@ -3,12 +3,10 @@ ghost use Rattle.std.specs.Prelude.{IfOk};
 ghost use Rattle.tree_nodes.specs.Fits.{fits_prop_name, fits_prop_or_spread};
 ghost use Rattle.tree_nodes.specs.Placed.{inner};
 ghost use Rattle.tree_nodes.specs.View.{view_prop_name, view_prop_or_spread};
-ghost use Rattle.grammar_spec.specs.Reader.Source as spec;
 ghost use Rattle.grammar_spec.specs.Reader.Expressions as reads;
-ghost use Rattle.parse_state.specs.Answers.{Falls, Gives, Stays};
 ghost use Rattle.parse_state.specs.Codes.{code_of};
-ghost use Rattle.parse_state.specs.Cursors.{stream_of};
-ghost use Rattle.parse_state.specs.States.{state_of};
+ghost use Rattle.parse_state.specs.Reads.{Shorter, NotLonger};
+ghost use Rattle.parse_operands.specs.Rules.{ReadsBy};
 ghost use Rattle.parse_objects.specs.Props as pieces;
 ghost use Rattle.parse_objects.specs.Props.{word_of};
 
@@ -35,9 +33,11 @@ pub fn method<'a, I: Tokens<'a> + Drop, N: Nested<'a, I>>(
     is_async: bool,
 ) -> Result<PropOrSpread, Failure>
     requires ready { N.ready nested.now }
-    ensures value { Gives (λ x. (view_prop_or_spread inner x, state_of I.state p.new)) (spec.bound (stream_of I.machine) (state_of I.state p.new)) result (reads.method_prop_by (stream_of I.machine) (N.reads nested.now I.State I.machine) (code_of code) whole.0 generator is_async (state_of I.state p.old)) }
+    ensures value { ReadsBy I.machine I.state (N.reads nested.now) p.old p.new result
+        (view_prop_or_spread inner)
+        (λ m r. reads.method_prop_by m r (code_of code) whole.0 generator is_async) }
     ensures fits { IfOk result (λ x. fits_prop_or_spread (λ p. p) x) }
-    ensures shorter { Falls result (spec.bound (stream_of I.machine) (state_of I.state p.new)) (spec.bound (stream_of I.machine) (state_of I.state p.old)) }
+    ensures shorter { Shorter I.machine I.state p.old p.new result }
 {
     let key = key(p, nested, code)?;
     let function = function(p, nested, code, whole, generator, is_async)?;
@@ -53,9 +53,10 @@ pub fn getter<'a, I: Tokens<'a> + Drop, N: Nested<'a, I>>(
     code: Around,
 ) -> Result<PropOrSpread, Failure>
     requires ready { N.ready nested.now }
-    ensures value { Gives (λ x. (view_prop_or_spread inner x, state_of I.state p.new)) (spec.bound (stream_of I.machine) (state_of I.state p.new)) result (reads.getter_by (stream_of I.machine) (N.reads nested.now I.State I.machine) (code_of code) (state_of I.state p.old)) }
+    ensures value { ReadsBy I.machine I.state (N.reads nested.now) p.old p.new result
+        (view_prop_or_spread inner) (λ m r. reads.getter_by m r (code_of code)) }
     ensures fits { IfOk result (λ x. fits_prop_or_spread (λ p. p) x) }
-    ensures shorter { Falls result (spec.bound (stream_of I.machine) (state_of I.state p.new)) (spec.bound (stream_of I.machine) (state_of I.state p.old)) }
+    ensures shorter { Shorter I.machine I.state p.old p.new result }
 {
     let start = p.lo();
     p.bump()?;
@@ -75,9 +76,10 @@ pub fn setter<'a, I: Tokens<'a> + Drop, N: Nested<'a, I>>(
     code: Around,
 ) -> Result<PropOrSpread, Failure>
     requires ready { N.ready nested.now }
-    ensures value { Gives (λ x. (view_prop_or_spread inner x, state_of I.state p.new)) (spec.bound (stream_of I.machine) (state_of I.state p.new)) result (reads.setter_by (stream_of I.machine) (N.reads nested.now I.State I.machine) (code_of code) (state_of I.state p.old)) }
+    ensures value { ReadsBy I.machine I.state (N.reads nested.now) p.old p.new result
+        (view_prop_or_spread inner) (λ m r. reads.setter_by m r (code_of code)) }
     ensures fits { IfOk result (λ x. fits_prop_or_spread (λ p. p) x) }
-    ensures shorter { Falls result (spec.bound (stream_of I.machine) (state_of I.state p.new)) (spec.bound (stream_of I.machine) (state_of I.state p.old)) }
+    ensures shorter { Shorter I.machine I.state p.old p.new result }
 {
     let start = p.lo();
     p.bump()?;
@@ -99,9 +101,10 @@ pub fn shorthand<'a, I: Tokens<'a> + Drop, N: Nested<'a, I>>(
     sym: Atom,
 ) -> Result<PropOrSpread, Failure>
     requires ready { N.ready nested.now }
-    ensures value { Gives (λ x. (view_prop_or_spread inner x, state_of I.state p.new)) (spec.bound (stream_of I.machine) (state_of I.state p.new)) result (pieces.shorthand_by (stream_of I.machine) (N.reads nested.now I.State I.machine) (code_of code) place sym (state_of I.state p.old)) }
+    ensures value { ReadsBy I.machine I.state (N.reads nested.now) p.old p.new result
+        (view_prop_or_spread inner) (λ m r. pieces.shorthand_by m r (code_of code) place sym) }
     ensures fits { IfOk result (λ x. fits_prop_or_spread (λ p. p) x) }
-    ensures not_longer { Stays result (spec.bound (stream_of I.machine) (state_of I.state p.new)) (spec.bound (stream_of I.machine) (state_of I.state p.old)) }
+    ensures not_longer { NotLonger I.machine I.state p.old p.new result }
 {
     if p.eat(kinds::ASSIGN)? {
         let value = nested.expr(p, with_in(code), ASSIGNMENT)?;
@@ -123,9 +126,12 @@ pub fn prop_end<'a, I: Tokens<'a> + Drop, N: Nested<'a, I>>(
 ) -> Result<PropOrSpread, Failure>
     requires ready { N.ready nested.now }
     requires fits { fits_prop_name (λ p. p) key }
-    ensures value { Gives (λ x. (view_prop_or_spread inner x, state_of I.state p.new)) (spec.bound (stream_of I.machine) (state_of I.state p.new)) result (pieces.prop_end (stream_of I.machine) (N.reads nested.now I.State I.machine) (code_of code) place (word_of named (view_prop_name inner key)) (view_prop_name inner key) (state_of I.state p.old)) }
+    ensures value { ReadsBy I.machine I.state (N.reads nested.now) p.old p.new result
+        (view_prop_or_spread inner)
+        (λ m r. pieces.prop_end m r (code_of code) place (word_of named (view_prop_name inner key))
+        (view_prop_name inner key)) }
     ensures fits { IfOk result (λ x. fits_prop_or_spread (λ p. p) x) }
-    ensures not_longer { Stays result (spec.bound (stream_of I.machine) (state_of I.state p.new)) (spec.bound (stream_of I.machine) (state_of I.state p.old)) }
+    ensures not_longer { NotLonger I.machine I.state p.old p.new result }
 {
     if p.eat(kinds::COLON)? {
         let value = nested.expr(p, with_in(code), ASSIGNMENT)?;
@@ -153,9 +159,10 @@ pub fn keyed<'a, I: Tokens<'a> + Drop, N: Nested<'a, I>>(
     code: Around,
 ) -> Result<PropOrSpread, Failure>
     requires ready { N.ready nested.now }
-    ensures value { Gives (λ x. (view_prop_or_spread inner x, state_of I.state p.new)) (spec.bound (stream_of I.machine) (state_of I.state p.new)) result (pieces.keyed_by (stream_of I.machine) (N.reads nested.now I.State I.machine) (code_of code) (state_of I.state p.old)) }
+    ensures value { ReadsBy I.machine I.state (N.reads nested.now) p.old p.new result
+        (view_prop_or_spread inner) (λ m r. pieces.keyed_by m r (code_of code)) }
     ensures fits { IfOk result (λ x. fits_prop_or_spread (λ p. p) x) }
-    ensures shorter { Falls result (spec.bound (stream_of I.machine) (state_of I.state p.new)) (spec.bound (stream_of I.machine) (state_of I.state p.old)) }
+    ensures shorter { Shorter I.machine I.state p.old p.new result }
 {
     let place = p.place();
     let named = p.is_name(code);
@@ -172,9 +179,10 @@ pub fn spread<'a, I: Tokens<'a> + Drop, N: Nested<'a, I>>(
     code: Around,
 ) -> Result<PropOrSpread, Failure>
     requires ready { N.ready nested.now }
-    ensures value { Gives (λ x. (view_prop_or_spread inner x, state_of I.state p.new)) (spec.bound (stream_of I.machine) (state_of I.state p.new)) result (pieces.spread_by (stream_of I.machine) (N.reads nested.now I.State I.machine) (code_of code) (state_of I.state p.old)) }
+    ensures value { ReadsBy I.machine I.state (N.reads nested.now) p.old p.new result
+        (view_prop_or_spread inner) (λ m r. pieces.spread_by m r (code_of code)) }
     ensures fits { IfOk result (λ x. fits_prop_or_spread (λ p. p) x) }
-    ensures shorter { Falls result (spec.bound (stream_of I.machine) (state_of I.state p.new)) (spec.bound (stream_of I.machine) (state_of I.state p.old)) }
+    ensures shorter { Shorter I.machine I.state p.old p.new result }
 {
     let start = p.lo();
     p.bump()?;
@@ -191,9 +199,10 @@ pub fn generator<'a, I: Tokens<'a> + Drop, N: Nested<'a, I>>(
     code: Around,
 ) -> Result<PropOrSpread, Failure>
     requires ready { N.ready nested.now }
-    ensures value { Gives (λ x. (view_prop_or_spread inner x, state_of I.state p.new)) (spec.bound (stream_of I.machine) (state_of I.state p.new)) result (pieces.generator_by (stream_of I.machine) (N.reads nested.now I.State I.machine) (code_of code) (state_of I.state p.old)) }
+    ensures value { ReadsBy I.machine I.state (N.reads nested.now) p.old p.new result
+        (view_prop_or_spread inner) (λ m r. pieces.generator_by m r (code_of code)) }
     ensures fits { IfOk result (λ x. fits_prop_or_spread (λ p. p) x) }
-    ensures shorter { Falls result (spec.bound (stream_of I.machine) (state_of I.state p.new)) (spec.bound (stream_of I.machine) (state_of I.state p.old)) }
+    ensures shorter { Shorter I.machine I.state p.old p.new result }
 {
     let start = p.lo();
     p.bump()?;
@@ -209,9 +218,10 @@ pub fn async_method<'a, I: Tokens<'a> + Drop, N: Nested<'a, I>>(
     code: Around,
 ) -> Result<PropOrSpread, Failure>
     requires ready { N.ready nested.now }
-    ensures value { Gives (λ x. (view_prop_or_spread inner x, state_of I.state p.new)) (spec.bound (stream_of I.machine) (state_of I.state p.new)) result (pieces.async_by (stream_of I.machine) (N.reads nested.now I.State I.machine) (code_of code) (state_of I.state p.old)) }
+    ensures value { ReadsBy I.machine I.state (N.reads nested.now) p.old p.new result
+        (view_prop_or_spread inner) (λ m r. pieces.async_by m r (code_of code)) }
     ensures fits { IfOk result (λ x. fits_prop_or_spread (λ p. p) x) }
-    ensures shorter { Falls result (spec.bound (stream_of I.machine) (state_of I.state p.new)) (spec.bound (stream_of I.machine) (state_of I.state p.old)) }
+    ensures shorter { Shorter I.machine I.state p.old p.new result }
 {
     let start = p.lo();
     p.bump()?;
@@ -228,9 +238,10 @@ pub fn prop<'a, I: Tokens<'a> + Drop, N: Nested<'a, I>>(
     code: Around,
 ) -> Result<PropOrSpread, Failure>
     requires ready { N.ready nested.now }
-    ensures value { Gives (λ x. (view_prop_or_spread inner x, state_of I.state p.new)) (spec.bound (stream_of I.machine) (state_of I.state p.new)) result (reads.prop_by (stream_of I.machine) (N.reads nested.now I.State I.machine) (code_of code) (state_of I.state p.old)) }
+    ensures value { ReadsBy I.machine I.state (N.reads nested.now) p.old p.new result
+        (view_prop_or_spread inner) (λ m r. reads.prop_by m r (code_of code)) }
     ensures fits { IfOk result (λ x. fits_prop_or_spread (λ p. p) x) }
-    ensures shorter { Falls result (spec.bound (stream_of I.machine) (state_of I.state p.new)) (spec.bound (stream_of I.machine) (state_of I.state p.old)) }
+    ensures shorter { Shorter I.machine I.state p.old p.new result }
 {
     if p.at(kinds::DOT_DOT_DOT) {
         return spread(p, nested, code);

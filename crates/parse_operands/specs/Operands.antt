@@ -4,10 +4,16 @@ use Rattle.base_token.specs.declared.place.Span.{Span}
 use Rattle.tree_nodes.specs.Tree.{Tree, Trees, opt_chain_expr, opt_call, call_expr, seq_expr}
 use Rattle.grammar_spec.specs.Tokens.Shape.{is_chain}
 use Rattle.tree_nodes.specs.Placed.{inner}
+use Rattle.tree_nodes.specs.declared.knot.Child.{Child}
+use Rattle.tree_nodes.specs.declared.knot.Part.{Part}
 use Rattle.parse_operands.specs.declared.operand.Operand.{Operand}
 
 abbrev pub tree_of : Operand → Tree
 tree_of o = inner o.expr.part.value
+
+-- the tree of a child in its box
+abbrev pub tree_in : {K : Type 0} → Child Part K → Tree
+tree_in x = inner x.part.value
 
 -- a member, by whether it goes on a chain (13.3)
 abbrev pub on_chain : Bool → Span → Tree → Tree

@@ -6,14 +6,14 @@ ghost use Rattle.parse_operands.specs.Elements.{after_item};
 ghost use Rattle.tree_nodes.specs.Fits.{fits_expr_or_spread, fits_member_prop};
 ghost use Rattle.tree_nodes.specs.Placed.{holds_expr, inner};
 ghost use Rattle.tree_nodes.specs.View.{unary_op_word, update_op_word, view_computed_prop_name, view_expr_or_spread, view_member_prop, view_private_name};
-ghost use Rattle.grammar_spec.specs.Reader.Source as spec;
 ghost use Rattle.grammar_spec.specs.Reader.Expressions as reads;
-ghost use Rattle.parse_state.specs.Answers.{Falls, Gives, going_on};
+ghost use Rattle.parse_state.specs.Answers.{going_on};
 ghost use Rattle.parse_state.specs.Codes.{code_of};
-ghost use Rattle.parse_state.specs.Cursors.{stream_of};
-ghost use Rattle.parse_state.specs.States.{from, from_span, state_of};
+ghost use Rattle.parse_state.specs.States.{from, from_span};
+ghost use Rattle.parse_state.specs.Reads.{ReadsAs, Shorter};
 ghost use Rattle.parse_operands.specs.Lists.{arguments_of, elements_of, FitArguments, FitElements, TellsRest};
 ghost use Rattle.parse_operands.specs.Operands.{tree_of};
+ghost use Rattle.parse_operands.specs.Rules.{ReadsBy};
 
 use crate::Nested;
 use crate::lists::{Arguments, Elements};
@@ -31,9 +31,10 @@ pub fn element<'a, I: Tokens<'a> + Drop, N: Nested<'a, I>>(
     code: Around,
 ) -> Result<ExprOrSpread, Failure>
     requires ready { N.ready nested.now }
-    ensures value { Gives (λ x. (view_expr_or_spread inner x, state_of I.state p.new)) (spec.bound (stream_of I.machine) (state_of I.state p.new)) result (reads.element_by (stream_of I.machine) (N.reads nested.now I.State I.machine) (code_of code) (state_of I.state p.old)) }
+    ensures value { ReadsBy I.machine I.state (N.reads nested.now) p.old p.new result
+        (view_expr_or_spread inner) (λ m r. reads.element_by m r (code_of code)) }
     ensures fits { IfOk result (λ x. fits_expr_or_spread (λ p. p) x) }
-    ensures shorter { Falls result (spec.bound (stream_of I.machine) (state_of I.state p.new)) (spec.bound (stream_of I.machine) (state_of I.state p.old)) }
+    ensures shorter { Shorter I.machine I.state p.old p.new result }
 {
     let start = p.lo();
     let place = p.place();
@@ -57,8 +58,9 @@ pub fn element<'a, I: Tokens<'a> + Drop, N: Nested<'a, I>>(
 #[tactic(auto, unfolding(crate::specs::Elements::after_item))]
 pub fn goes_on<'a, I: Tokens<'a> + Drop>(p: &mut Parser<'a, I>, close: u8) -> Result<bool, Failure>
     requires { 0 < close }
-    ensures value { Gives (λ b. (b, state_of I.state p.new)) (spec.bound (stream_of I.machine) (state_of I.state p.new)) result (after_item (stream_of I.machine) close (state_of I.state p.old)) }
-    ensures shorter { Falls result (spec.bound (stream_of I.machine) (state_of I.state p.new)) (spec.bound (stream_of I.machine) (state_of I.state p.old)) }
+    ensures value { ReadsAs I.machine I.state p.old p.new result
+        (λ b. b) (λ m. after_item m close) }
+    ensures shorter { Shorter I.machine I.state p.old p.new result }
 {
     if p.eat(kinds::COMMA)? {
         return Ok(true);
@@ -79,10 +81,12 @@ pub fn array_turn<'a, I: Tokens<'a> + Drop, N: Nested<'a, I>>(
     requires ready { N.ready nested.now }
     requires fits { FitElements list.old }
     requires rest { TellsRest list.old }
-    ensures value { Gives (λ x. (going_on x (elements_of list.new), state_of I.state p.new)) (spec.bound (stream_of I.machine) (state_of I.state p.new)) result (reads.element_step (stream_of I.machine) (N.reads nested.now I.State I.machine) (code_of code) true right_bracket_kind (elements_of list.old) (state_of I.state p.old)) }
+    ensures value { ReadsBy I.machine I.state (N.reads nested.now) p.old p.new result
+        (λ x. going_on x (elements_of list.new))
+        (λ m r. reads.element_step m r (code_of code) true right_bracket_kind (elements_of list.old)) }
     ensures fits { IfOk result (λ _. FitElements list.new) }
     ensures rest { IfOk result (λ _. TellsRest list.new) }
-    ensures shorter { Falls result (spec.bound (stream_of I.machine) (state_of I.state p.new)) (spec.bound (stream_of I.machine) (state_of I.state p.old)) }
+    ensures shorter { Shorter I.machine I.state p.old p.new result }
 {
     if p.eat(kinds::RIGHT_BRACKET)? {
         return Ok(false);
@@ -109,10 +113,11 @@ pub fn elements<'a, I: Tokens<'a> + Drop, N: Nested<'a, I>>(
     code: Around,
 ) -> Result<Elements, Failure>
     requires ready { N.ready nested.now }
-    ensures value { Gives (λ x. (elements_of x, state_of I.state p.new)) (spec.bound (stream_of I.machine) (state_of I.state p.new)) result (reads.elements_by (stream_of I.machine) (N.reads nested.now I.State I.machine) (code_of code) true right_bracket_kind (state_of I.state p.old)) }
+    ensures value { ReadsBy I.machine I.state (N.reads nested.now) p.old p.new result
+        elements_of (λ m r. reads.elements_by m r (code_of code) true right_bracket_kind) }
     ensures fits { IfOk result (λ x. FitElements x) }
     ensures rest { IfOk result (λ x. TellsRest x) }
-    ensures shorter { Falls result (spec.bound (stream_of I.machine) (state_of I.state p.new)) (spec.bound (stream_of I.machine) (state_of I.state p.old)) }
+    ensures shorter { Shorter I.machine I.state p.old p.new result }
 {
     let mut list = Elements {
         items: Vec::new(p.alloc),
@@ -134,9 +139,11 @@ pub fn argument_turn<'a, I: Tokens<'a> + Drop, N: Nested<'a, I>>(
 ) -> Result<bool, Failure>
     requires ready { N.ready nested.now }
     requires fits { FitArguments list.old }
-    ensures value { Gives (λ x. (going_on x (arguments_of list.new), state_of I.state p.new)) (spec.bound (stream_of I.machine) (state_of I.state p.new)) result (reads.element_step (stream_of I.machine) (N.reads nested.now I.State I.machine) (code_of code) false right_paren_kind (arguments_of list.old) (state_of I.state p.old)) }
+    ensures value { ReadsBy I.machine I.state (N.reads nested.now) p.old p.new result
+        (λ x. going_on x (arguments_of list.new))
+        (λ m r. reads.element_step m r (code_of code) false right_paren_kind (arguments_of list.old)) }
     ensures fits { IfOk result (λ _. FitArguments list.new) }
-    ensures shorter { Falls result (spec.bound (stream_of I.machine) (state_of I.state p.new)) (spec.bound (stream_of I.machine) (state_of I.state p.old)) }
+    ensures shorter { Shorter I.machine I.state p.old p.new result }
 {
     if p.eat(kinds::RIGHT_PAREN)? {
         return Ok(false);
@@ -156,9 +163,10 @@ pub fn group_items<'a, I: Tokens<'a> + Drop, N: Nested<'a, I>>(
     code: Around,
 ) -> Result<Arguments, Failure>
     requires ready { N.ready nested.now }
-    ensures value { Gives (λ x. (arguments_of x, state_of I.state p.new)) (spec.bound (stream_of I.machine) (state_of I.state p.new)) result (reads.elements_by (stream_of I.machine) (N.reads nested.now I.State I.machine) (code_of code) false right_paren_kind (state_of I.state p.old)) }
+    ensures value { ReadsBy I.machine I.state (N.reads nested.now) p.old p.new result
+        arguments_of (λ m r. reads.elements_by m r (code_of code) false right_paren_kind) }
     ensures fits { IfOk result (λ x. FitArguments x) }
-    ensures shorter { Falls result (spec.bound (stream_of I.machine) (state_of I.state p.new)) (spec.bound (stream_of I.machine) (state_of I.state p.old)) }
+    ensures shorter { Shorter I.machine I.state p.old p.new result }
 {
     let mut list = Arguments {
         items: Vec::new(p.alloc),
@@ -176,9 +184,11 @@ pub fn arguments<'a, I: Tokens<'a> + Drop, N: Nested<'a, I>>(
     code: Around,
 ) -> Result<Vec<ExprOrSpread>, Failure>
     requires ready { N.ready nested.now }
-    ensures value { Gives (λ x. (map (view_expr_or_spread inner) x.items, state_of I.state p.new)) (spec.bound (stream_of I.machine) (state_of I.state p.new)) result (reads.arguments_by (stream_of I.machine) (N.reads nested.now I.State I.machine) (code_of code) (state_of I.state p.old)) }
+    ensures value { ReadsBy I.machine I.state (N.reads nested.now) p.old p.new result
+        (λ x. map (view_expr_or_spread inner) x.items)
+        (λ m r. reads.arguments_by m r (code_of code)) }
     ensures fits { IfOk result (λ x. All (λ x. fits_expr_or_spread (λ p. p) x) x.items) }
-    ensures shorter { Falls result (spec.bound (stream_of I.machine) (state_of I.state p.new)) (spec.bound (stream_of I.machine) (state_of I.state p.old)) }
+    ensures shorter { Shorter I.machine I.state p.old p.new result }
 {
     let list = group_items(p, nested, code)?;
     Ok(list.items)

@@ -180,6 +180,7 @@ pub fn await_expr(alloc: Global, span: Span, arg: Operand) -> Result<Operand, Fa
 fn is_absent(operand: &Operand) -> bool
     ensures { result ≡ shape.is_absent (tree_of operand.now) }
 {
+    // For the proof: the match shows the kind, and by it no expression is left out.
     match &operand.expr.get().kind {
         ExprKind::Seq(_) => false,
         _ => false,
@@ -254,7 +255,9 @@ pub fn chain_member(
     prop: MemberProp,
 ) -> Result<Operand, Failure>
     requires { fits_member_prop (λ p. p) prop }
-    ensures value { IfOk result (λ o. tree_of o ≡ opt_chain_expr span optional (member_expr span (tree_of obj) (view_member_prop inner prop))) }
+    ensures value { IfOk result (λ o. tree_of o
+        ≡ opt_chain_expr span optional
+        (member_expr span (tree_of obj) (view_member_prop inner prop))) }
     ensures full { IfErr result IsMemory }
 {
     let node = OptChainExpr {
@@ -278,7 +281,8 @@ pub fn call_expr(
     args: Vec<ExprOrSpread>,
 ) -> Result<Operand, Failure>
     requires { All (λ x. fits_expr_or_spread (λ p. p) x) args.items }
-    ensures value { IfOk result (λ o. tree_of o ≡ call_expr span (tree_of callee) (trees_by (view_expr_or_spread inner) args.items)) }
+    ensures value { IfOk result (λ o. tree_of o
+        ≡ call_expr span (tree_of callee) (trees_by (view_expr_or_spread inner) args.items)) }
     ensures full { IfErr result IsMemory }
 {
     let node = CallExpr {
@@ -299,7 +303,9 @@ pub fn chain_call(
     args: Vec<ExprOrSpread>,
 ) -> Result<Operand, Failure>
     requires { All (λ x. fits_expr_or_spread (λ p. p) x) args.items }
-    ensures value { IfOk result (λ o. tree_of o ≡ opt_chain_expr span optional (opt_call span (tree_of callee) (trees_by (view_expr_or_spread inner) args.items))) }
+    ensures value { IfOk result (λ o. tree_of o
+        ≡ opt_chain_expr span optional
+        (opt_call span (tree_of callee) (trees_by (view_expr_or_spread inner) args.items))) }
     ensures full { IfErr result IsMemory }
 {
     let node = OptChainExpr {
@@ -323,7 +329,8 @@ pub fn new_expr(
     args: Vec<ExprOrSpread>,
 ) -> Result<Operand, Failure>
     requires { All (λ x. fits_expr_or_spread (λ p. p) x) args.items }
-    ensures value { IfOk result (λ o. tree_of o ≡ new_expr span (tree_of callee) (list (trees_by (view_expr_or_spread inner) args.items))) }
+    ensures value { IfOk result (λ o. tree_of o
+        ≡ new_expr span (tree_of callee) (list (trees_by (view_expr_or_spread inner) args.items))) }
     ensures full { IfErr result IsMemory }
 {
     let node = NewExpr {
@@ -356,7 +363,8 @@ pub fn array_lit(
     elems: Vec<Option<ExprOrSpread>>,
 ) -> Result<Operand, Failure>
     requires { All (λ x. fits_held (λ x. fits_expr_or_spread (λ p. p) x) x) elems.items }
-    ensures value { IfOk result (λ o. tree_of o ≡ array_lit span (trees_by (λ x. element_by (view_expr_or_spread inner) x) elems.items)) }
+    ensures value { IfOk result (λ o. tree_of o
+        ≡ array_lit span (trees_by (λ x. element_by (view_expr_or_spread inner) x) elems.items)) }
     ensures full { IfErr result IsMemory }
 {
     let node = ArrayLit { span, elems };
@@ -459,7 +467,8 @@ pub fn super_call(
     args: Vec<ExprOrSpread>,
 ) -> Result<Operand, Failure>
     requires { All (λ x. fits_expr_or_spread (λ p. p) x) args.items }
-    ensures value { IfOk result (λ o. tree_of o ≡ call_expr span (super place) (trees_by (view_expr_or_spread inner) args.items)) }
+    ensures value { IfOk result (λ o. tree_of o
+        ≡ call_expr span (super place) (trees_by (view_expr_or_spread inner) args.items)) }
     ensures full { IfErr result IsMemory }
 {
     let node = CallExpr {
@@ -479,7 +488,8 @@ pub fn import_call(
     args: Vec<ExprOrSpread>,
 ) -> Result<Operand, Failure>
     requires { All (λ x. fits_expr_or_spread (λ p. p) x) args.items }
-    ensures value { IfOk result (λ o. tree_of o ≡ call_expr span (import place) (trees_by (view_expr_or_spread inner) args.items)) }
+    ensures value { IfOk result (λ o. tree_of o
+        ≡ call_expr span (import place) (trees_by (view_expr_or_spread inner) args.items)) }
     ensures full { IfErr result IsMemory }
 {
     let node = CallExpr {
@@ -505,7 +515,9 @@ pub fn member_of(
     prop: MemberProp,
 ) -> Result<Operand, Failure>
     requires { fits_member_prop (λ p. p) prop }
-    ensures value { IfOk result (λ o. tree_of o ≡ on_chain (shape.is_chain (tree_of obj)) span (member_expr span (tree_of obj) (view_member_prop inner prop))) }
+    ensures value { IfOk result (λ o. tree_of o
+        ≡ on_chain (shape.is_chain (tree_of obj)) span
+        (member_expr span (tree_of obj) (view_member_prop inner prop))) }
     ensures full { IfErr result IsMemory }
 {
     if is_chain(&obj) {
@@ -523,7 +535,8 @@ pub fn call_of(
     args: Vec<ExprOrSpread>,
 ) -> Result<Operand, Failure>
     requires { All (λ x. fits_expr_or_spread (λ p. p) x) args.items }
-    ensures value { IfOk result (λ o. tree_of o ≡ call_tree span (tree_of callee) (trees_by (view_expr_or_spread inner) args.items)) }
+    ensures value { IfOk result (λ o. tree_of o
+        ≡ call_tree span (tree_of callee) (trees_by (view_expr_or_spread inner) args.items)) }
     ensures full { IfErr result IsMemory }
 {
     if is_chain(&callee) {
@@ -543,7 +556,8 @@ pub fn assign_expr(
     right: Operand,
 ) -> Result<Operand, Failure>
     requires { fits_assign_target (λ p. p) left }
-    ensures value { IfOk result (λ o. tree_of o ≡ assign_expr span (assign_op_kind op) (view_assign_target inner left) (tree_of right)) }
+    ensures value { IfOk result (λ o. tree_of o
+        ≡ assign_expr span (assign_op_kind op) (view_assign_target inner left) (tree_of right)) }
     ensures full { IfErr result IsMemory }
 {
     let end = right.end;

@@ -29,7 +29,9 @@ pub fn unary_op(kind: u8) -> Option<UnaryOp>
 
 /// `++` or `--`, of this kind.
 pub fn update_op(kind: u8) -> Option<UpdateOp>
-    ensures { MatchOption result (ops.between plus_plus_kind minus_minus_kind kind ≡ false) (λ op. (ops.between plus_plus_kind minus_minus_kind kind ≡ true) × (update_op_word op ≡ kind)) }
+    ensures { MatchOption result (ops.between plus_plus_kind minus_minus_kind kind ≡ false)
+        (λ op. (ops.between plus_plus_kind minus_minus_kind kind ≡ true)
+        × (update_op_word op ≡ kind)) }
 {
     match kind {
         kinds::PLUS_PLUS => Some(UpdateOp::PlusPlus),
@@ -40,7 +42,8 @@ pub fn update_op(kind: u8) -> Option<UpdateOp>
 
 /// The operator between two operands here, of this kind.
 pub fn binary_op(code: Around, kind: u8) -> Option<BinaryOp>
-    ensures { MatchOption result (ops.operates (code_of code) kind ≡ false) (λ op. (ops.operates (code_of code) kind ≡ true) × (binary_op_kind op ≡ kind)) }
+    ensures { MatchOption result (ops.operates (code_of code) kind ≡ false)
+        (λ op. (ops.operates (code_of code) kind ≡ true) × (binary_op_kind op ≡ kind)) }
 {
     match kind {
         kinds::EQ_EQ => Some(BinaryOp::EqEq),
@@ -74,7 +77,8 @@ pub fn binary_op(code: Around, kind: u8) -> Option<BinaryOp>
 
 /// The operator that assigns, of this kind.
 pub fn assign_op(kind: u8) -> Option<AssignOp>
-    ensures { MatchOption result (ops.is_assign_op kind ≡ false) (λ op. (ops.is_assign_op kind ≡ true) × (assign_op_kind op ≡ kind)) }
+    ensures { MatchOption result (ops.is_assign_op kind ≡ false)
+        (λ op. (ops.is_assign_op kind ≡ true) × (assign_op_kind op ≡ kind)) }
 {
     match kind {
         kinds::ASSIGN => Some(AssignOp::Assign),

@@ -3,12 +3,12 @@ ghost use Rattle.std.specs.Prelude.{◌≡◌, ◌<◌, ◌&&◌, true, false, I
 ghost use Rattle.tree_nodes.specs.Fits.{fits_rest_pat};
 ghost use Rattle.tree_nodes.specs.Placed.{holds_pat, inner};
 ghost use Rattle.tree_nodes.specs.View.{view_rest_pat};
-ghost use Rattle.grammar_spec.specs.Reader.Source as spec;
 ghost use Rattle.grammar_spec.specs.Reader.Statements as reads;
-ghost use Rattle.parse_state.specs.Answers.{Falls, Gives, Stays};
 ghost use Rattle.parse_state.specs.Codes.{code_of};
-ghost use Rattle.parse_state.specs.Cursors.{stream_of};
-ghost use Rattle.parse_state.specs.States.{from, state_of};
+ghost use Rattle.parse_state.specs.States.{from};
+ghost use Rattle.parse_state.specs.Reads.{ReadsAs, Shorter, NotLonger};
+ghost use Rattle.parse_operands.specs.Rules.{ReadsBy};
+ghost use Rattle.parse_operands.specs.Operands.{tree_in};
 ghost use Rattle.parse_patterns.specs.Items.{after_by, item_by, rest_by};
 
 use crate::made;
@@ -32,9 +32,11 @@ pub fn initial<'a, I: Tokens<'a> + Drop, N: Nested<'a, I>>(
 ) -> Result<PatBox, Failure>
     requires ready { N.ready nested.now }
     requires pat { holds_pat pat.part.value }
-    ensures value { Gives (λ x. (inner x.part.value, state_of I.state p.new)) (spec.bound (stream_of I.machine) (state_of I.state p.new)) result (reads.initial_pat (stream_of I.machine) (N.reads nested.now I.State I.machine) (code_of code) (from start.0) (inner pat.part.value) (state_of I.state p.old)) }
+    ensures value { ReadsBy I.machine I.state (N.reads nested.now) p.old p.new result
+        tree_in
+        (λ m r. reads.initial_pat m r (code_of code) (from start.0) (inner pat.part.value)) }
     ensures fits { IfOk result (λ x. holds_pat x.part.value) }
-    ensures not_longer { Stays result (spec.bound (stream_of I.machine) (state_of I.state p.new)) (spec.bound (stream_of I.machine) (state_of I.state p.old)) }
+    ensures not_longer { NotLonger I.machine I.state p.old p.new result }
 {
     if p.eat(kinds::ASSIGN)? {
         let value = nested.expr(p, with_in(code), ASSIGNMENT)?;
@@ -52,9 +54,10 @@ pub fn item<'a, I: Tokens<'a> + Drop, N: Nested<'a, I>>(
     code: Around,
 ) -> Result<PatBox, Failure>
     requires ready { N.ready nested.now }
-    ensures value { Gives (λ x. (inner x.part.value, state_of I.state p.new)) (spec.bound (stream_of I.machine) (state_of I.state p.new)) result (item_by (stream_of I.machine) (N.reads nested.now I.State I.machine) (code_of code) (state_of I.state p.old)) }
+    ensures value { ReadsBy I.machine I.state (N.reads nested.now) p.old p.new result
+        tree_in (λ m r. item_by m r (code_of code)) }
     ensures fits { IfOk result (λ x. holds_pat x.part.value) }
-    ensures shorter { Falls result (spec.bound (stream_of I.machine) (state_of I.state p.new)) (spec.bound (stream_of I.machine) (state_of I.state p.old)) }
+    ensures shorter { Shorter I.machine I.state p.old p.new result }
 {
     let start = p.lo();
     let pat = nested.pat(p, with_in(code))?;
@@ -70,9 +73,10 @@ pub fn rest<'a, I: Tokens<'a> + Drop, N: Nested<'a, I>>(
     code: Around,
 ) -> Result<RestPat, Failure>
     requires ready { N.ready nested.now }
-    ensures value { Gives (λ x. (view_rest_pat inner x, state_of I.state p.new)) (spec.bound (stream_of I.machine) (state_of I.state p.new)) result (rest_by (stream_of I.machine) (N.reads nested.now I.State I.machine) (code_of code) (state_of I.state p.old)) }
+    ensures value { ReadsBy I.machine I.state (N.reads nested.now) p.old p.new result
+        (view_rest_pat inner) (λ m r. rest_by m r (code_of code)) }
     ensures fits { IfOk result (λ x. fits_rest_pat (λ p. p) x) }
-    ensures shorter { Falls result (spec.bound (stream_of I.machine) (state_of I.state p.new)) (spec.bound (stream_of I.machine) (state_of I.state p.old)) }
+    ensures shorter { Shorter I.machine I.state p.old p.new result }
 {
     let start = p.lo();
     let dot3_token = dots(start);
@@ -94,8 +98,9 @@ pub fn goes_on<'a, I: Tokens<'a> + Drop>(
     last: bool,
 ) -> Result<bool, Failure>
     requires { 0 < close }
-    ensures value { Gives (λ b. (b, state_of I.state p.new)) (spec.bound (stream_of I.machine) (state_of I.state p.new)) result (after_by (stream_of I.machine) close last (state_of I.state p.old)) }
-    ensures shorter { Falls result (spec.bound (stream_of I.machine) (state_of I.state p.new)) (spec.bound (stream_of I.machine) (state_of I.state p.old)) }
+    ensures value { ReadsAs I.machine I.state p.old p.new result
+        (λ b. b) (λ m. after_by m close last) }
+    ensures shorter { Shorter I.machine I.state p.old p.new result }
 {
     if !last && p.eat(kinds::COMMA)? {
         return Ok(true);

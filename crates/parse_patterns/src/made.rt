@@ -46,7 +46,8 @@ pub fn name(alloc: Global, span: Span, sym: Atom) -> Result<PatBox, Failure>
 #[inline(never)]
 pub fn array_pat(alloc: Global, span: Span, elems: Vec<Option<PatBox>>) -> Result<PatBox, Failure>
     requires { All (λ x. fits_held (λ y. holds_pat y.part.value) x) elems.items }
-    ensures value { IfOk result (λ x. inner x.part.value ≡ array_pat span (trees_by (λ x. element_by (λ y. inner y.part.value) x) elems.items)) }
+    ensures value { IfOk result (λ x. inner x.part.value
+        ≡ array_pat span (trees_by (λ x. element_by (λ y. inner y.part.value) x) elems.items)) }
     ensures holds { IfOk result (λ x. holds_pat x.part.value) }
     ensures full { IfErr result IsMemory }
 {
@@ -57,7 +58,8 @@ pub fn array_pat(alloc: Global, span: Span, elems: Vec<Option<PatBox>>) -> Resul
 #[inline(never)]
 pub fn object_pat(alloc: Global, span: Span, props: Vec<ObjectPatProp>) -> Result<PatBox, Failure>
     requires { All (λ x. fits_object_pat_prop (λ p. p) x) props.items }
-    ensures value { IfOk result (λ x. inner x.part.value ≡ object_pat span (trees_by (view_object_pat_prop inner) props.items)) }
+    ensures value { IfOk result (λ x. inner x.part.value
+        ≡ object_pat span (trees_by (view_object_pat_prop inner) props.items)) }
     ensures holds { IfOk result (λ x. holds_pat x.part.value) }
     ensures full { IfErr result IsMemory }
 {

@@ -5,12 +5,14 @@ ghost use Rattle.tree_nodes.specs.Fits.{fits_held, fits_object_pat_prop};
 ghost use Rattle.tree_nodes.specs.Placed.{holds_pat, inner};
 ghost use Rattle.tree_nodes.specs.View.{view_object_pat_prop};
 ghost use Rattle.tree_spec.specs.Tree.{element_by};
-ghost use Rattle.grammar_spec.specs.Reader.Source as spec;
 ghost use Rattle.grammar_spec.specs.Reader.Statements as reads;
-ghost use Rattle.parse_state.specs.Answers.{Falls, Gives, going_on, IsMemory};
+ghost use Rattle.parse_state.specs.Answers.{Gives, going_on, IsMemory};
 ghost use Rattle.parse_state.specs.Codes.{code_of};
 ghost use Rattle.parse_state.specs.Cursors.{stream_of};
+ghost use Rattle.parse_state.specs.Reads.{Shorter, to_come};
 ghost use Rattle.parse_state.specs.States.{state_of};
+ghost use Rattle.parse_operands.specs.Rules.{ReadsBy};
+ghost use Rattle.parse_operands.specs.Operands.{tree_in};
 ghost use Rattle.parse_patterns.specs.Items.{array_items, object_items, object_rest};
 
 use crate::items::{goes_on, item, rest};
@@ -42,9 +44,12 @@ pub fn array_turn<'a, I: Tokens<'a> + Drop, N: Nested<'a, I>>(
 ) -> Result<bool, Failure>
     requires ready { N.ready nested.now }
     requires fits { All (λ y. fits_held (λ z. holds_pat z.part.value) y) list.old.items }
-    ensures value { Gives (λ x. (going_on x (map (λ y. element_by (λ z. inner z.part.value) y) list.new.items), state_of I.state p.new)) (spec.bound (stream_of I.machine) (state_of I.state p.new)) result (reads.array_item (stream_of I.machine) (N.reads nested.now I.State I.machine) (code_of code) (map (λ y. element_by (λ z. inner z.part.value) y) list.old.items) (state_of I.state p.old)) }
+    ensures value { ReadsBy I.machine I.state (N.reads nested.now) p.old p.new result
+        (λ x. going_on x (map (λ y. element_by (λ z. inner z.part.value) y) list.new.items))
+        (λ m r. reads.array_item m r (code_of code)
+        (map (λ y. element_by (λ z. inner z.part.value) y) list.old.items)) }
     ensures fits { IfOk result (λ x. All (λ y. fits_held (λ z. holds_pat z.part.value) y) list.new.items) }
-    ensures shorter { Falls result (spec.bound (stream_of I.machine) (state_of I.state p.new)) (spec.bound (stream_of I.machine) (state_of I.state p.old)) }
+    ensures shorter { Shorter I.machine I.state p.old p.new result }
 {
     if p.eat(kinds::RIGHT_BRACKET)? {
         return Ok(false);
@@ -73,9 +78,11 @@ pub fn array_items<'a, I: Tokens<'a> + Drop, N: Nested<'a, I>>(
     code: Around,
 ) -> Result<Vec<Option<PatBox>>, Failure>
     requires ready { N.ready nested.now }
-    ensures value { Gives (λ x. (map (λ y. element_by (λ z. inner z.part.value) y) x.items, state_of I.state p.new)) (spec.bound (stream_of I.machine) (state_of I.state p.new)) result (array_items (stream_of I.machine) (N.reads nested.now I.State I.machine) (code_of code) (state_of I.state p.old)) }
+    ensures value { ReadsBy I.machine I.state (N.reads nested.now) p.old p.new result
+        (λ x. map (λ y. element_by (λ z. inner z.part.value) y) x.items)
+        (λ m r. array_items m r (code_of code)) }
     ensures fits { IfOk result (λ x. All (λ y. fits_held (λ z. holds_pat z.part.value) y) x.items) }
-    ensures shorter { Falls result (spec.bound (stream_of I.machine) (state_of I.state p.new)) (spec.bound (stream_of I.machine) (state_of I.state p.old)) }
+    ensures shorter { Shorter I.machine I.state p.old p.new result }
 {
     let mut list = Vec::new(p.alloc);
     'turns: while array_turn(p, nested, code, &mut list)? {}
@@ -91,9 +98,10 @@ pub fn array<'a, I: Tokens<'a> + Drop, N: Nested<'a, I>>(
     code: Around,
 ) -> Result<PatBox, Failure>
     requires ready { N.ready nested.now }
-    ensures value { Gives (λ x. (inner x.part.value, state_of I.state p.new)) (spec.bound (stream_of I.machine) (state_of I.state p.new)) result (reads.array_pat_by (stream_of I.machine) (N.reads nested.now I.State I.machine) (code_of code) (state_of I.state p.old)) }
+    ensures value { ReadsBy I.machine I.state (N.reads nested.now) p.old p.new result
+        tree_in (λ m r. reads.array_pat_by m r (code_of code)) }
     ensures fits { IfOk result (λ x. holds_pat x.part.value) }
-    ensures shorter { Falls result (spec.bound (stream_of I.machine) (state_of I.state p.new)) (spec.bound (stream_of I.machine) (state_of I.state p.old)) }
+    ensures shorter { Shorter I.machine I.state p.old p.new result }
 {
     let start = p.lo();
     p.bump()?;
@@ -110,9 +118,10 @@ pub fn object_rest<'a, I: Tokens<'a> + Drop, N: Nested<'a, I>>(
     code: Around,
 ) -> Result<ObjectPatProp, Failure>
     requires ready { N.ready nested.now }
-    ensures value { Gives (λ x. (view_object_pat_prop inner x, state_of I.state p.new)) (spec.bound (stream_of I.machine) (state_of I.state p.new)) result (object_rest (stream_of I.machine) (N.reads nested.now I.State I.machine) (code_of code) (state_of I.state p.old)) }
+    ensures value { ReadsBy I.machine I.state (N.reads nested.now) p.old p.new result
+        (view_object_pat_prop inner) (λ m r. object_rest m r (code_of code)) }
     ensures fits { IfOk result (λ x. fits_object_pat_prop (λ p. p) x) }
-    ensures shorter { Falls result (spec.bound (stream_of I.machine) (state_of I.state p.new)) (spec.bound (stream_of I.machine) (state_of I.state p.old)) }
+    ensures shorter { Shorter I.machine I.state p.old p.new result }
 {
     let read = rest(p, nested, code)?;
     if is_structured(read.arg.get()) {
@@ -126,7 +135,8 @@ pub fn object_rest<'a, I: Tokens<'a> + Drop, N: Nested<'a, I>>(
 fn add(list: &mut Vec<ObjectPatProp>, item: ObjectPatProp) -> Result<(), Failure>
     requires list { All (λ y. fits_object_pat_prop (λ p. p) y) list.old.items }
     requires item { fits_object_pat_prop (λ p. p) item }
-    ensures value { IfOk result (λ _. map (view_object_pat_prop inner) list.new.items ≡ map (view_object_pat_prop inner) list.old.items ++ view_object_pat_prop inner item ∷ []) }
+    ensures value { IfOk result (λ _. map (view_object_pat_prop inner) list.new.items
+        ≡ map (view_object_pat_prop inner) list.old.items ++ view_object_pat_prop inner item ∷ []) }
     ensures fits { IfOk result (λ _. All (λ y. fits_object_pat_prop (λ p. p) y) list.new.items) }
     ensures full { IfErr result IsMemory }
 {
@@ -145,9 +155,10 @@ pub fn object_turn<'a, I: Tokens<'a> + Drop, N: Nested<'a, I>>(
 ) -> Result<bool, Failure>
     requires ready { N.ready nested.now }
     requires fits { All (λ y. fits_object_pat_prop (λ p. p) y) list.old.items }
-    ensures value { Gives (λ x. (going_on x (map (view_object_pat_prop inner) list.new.items), state_of I.state p.new)) (spec.bound (stream_of I.machine) (state_of I.state p.new)) result (reads.object_item (stream_of I.machine) (N.reads nested.now I.State I.machine) (code_of code) (map (view_object_pat_prop inner) list.old.items) (state_of I.state p.old)) }
+    ensures value { Gives (λ x. (going_on x (map (view_object_pat_prop inner) list.new.items), state_of I.state p.new)) (to_come I.machine I.state p.new) result
+        (reads.object_item (stream_of I.machine) (N.reads nested.now I.State I.machine) (code_of code) (map (view_object_pat_prop inner) list.old.items) (state_of I.state p.old)) }
     ensures fits { IfOk result (λ x. All (λ y. fits_object_pat_prop (λ p. p) y) list.new.items) }
-    ensures shorter { Falls result (spec.bound (stream_of I.machine) (state_of I.state p.new)) (spec.bound (stream_of I.machine) (state_of I.state p.old)) }
+    ensures shorter { Shorter I.machine I.state p.old p.new result }
 {
     if p.eat(kinds::RIGHT_BRACE)? {
         return Ok(false);
@@ -171,9 +182,10 @@ pub fn object_items<'a, I: Tokens<'a> + Drop, N: Nested<'a, I>>(
     code: Around,
 ) -> Result<Vec<ObjectPatProp>, Failure>
     requires ready { N.ready nested.now }
-    ensures value { Gives (λ x. (map (view_object_pat_prop inner) x.items, state_of I.state p.new)) (spec.bound (stream_of I.machine) (state_of I.state p.new)) result (object_items (stream_of I.machine) (N.reads nested.now I.State I.machine) (code_of code) (state_of I.state p.old)) }
+    ensures value { ReadsBy I.machine I.state (N.reads nested.now) p.old p.new result
+        (λ x. map (view_object_pat_prop inner) x.items) (λ m r. object_items m r (code_of code)) }
     ensures fits { IfOk result (λ x. All (λ y. fits_object_pat_prop (λ p. p) y) x.items) }
-    ensures shorter { Falls result (spec.bound (stream_of I.machine) (state_of I.state p.new)) (spec.bound (stream_of I.machine) (state_of I.state p.old)) }
+    ensures shorter { Shorter I.machine I.state p.old p.new result }
 {
     let mut list = Vec::new(p.alloc);
     'turns: while object_turn(p, nested, code, &mut list)? {}
@@ -189,9 +201,10 @@ pub fn object<'a, I: Tokens<'a> + Drop, N: Nested<'a, I>>(
     code: Around,
 ) -> Result<PatBox, Failure>
     requires ready { N.ready nested.now }
-    ensures value { Gives (λ x. (inner x.part.value, state_of I.state p.new)) (spec.bound (stream_of I.machine) (state_of I.state p.new)) result (reads.object_pat_by (stream_of I.machine) (N.reads nested.now I.State I.machine) (code_of code) (state_of I.state p.old)) }
+    ensures value { ReadsBy I.machine I.state (N.reads nested.now) p.old p.new result
+        tree_in (λ m r. reads.object_pat_by m r (code_of code)) }
     ensures fits { IfOk result (λ x. holds_pat x.part.value) }
-    ensures shorter { Falls result (spec.bound (stream_of I.machine) (state_of I.state p.new)) (spec.bound (stream_of I.machine) (state_of I.state p.old)) }
+    ensures shorter { Shorter I.machine I.state p.old p.new result }
 {
     let start = p.lo();
     p.bump()?;
@@ -208,9 +221,10 @@ pub fn pattern<'a, I: Tokens<'a> + Drop, N: Nested<'a, I>>(
     code: Around,
 ) -> Result<PatBox, Failure>
     requires ready { N.ready nested.now }
-    ensures value { Gives (λ x. (inner x.part.value, state_of I.state p.new)) (spec.bound (stream_of I.machine) (state_of I.state p.new)) result (reads.pat_by (stream_of I.machine) (N.reads nested.now I.State I.machine) (code_of code) (state_of I.state p.old)) }
+    ensures value { ReadsBy I.machine I.state (N.reads nested.now) p.old p.new result
+        tree_in (λ m r. reads.pat_by m r (code_of code)) }
     ensures fits { IfOk result (λ x. holds_pat x.part.value) }
-    ensures shorter { Falls result (spec.bound (stream_of I.machine) (state_of I.state p.new)) (spec.bound (stream_of I.machine) (state_of I.state p.old)) }
+    ensures shorter { Shorter I.machine I.state p.old p.new result }
 {
     if p.at(kinds::LEFT_BRACKET) {
         return array(p, nested, code);

@@ -5,10 +5,11 @@ ghost use Rattle.tree_nodes.specs.Placed.{inner};
 ghost use Rattle.tree_nodes.specs.View.{view_object_pat_prop, view_prop_name};
 ghost use Rattle.grammar_spec.specs.Reader.Source as spec;
 ghost use Rattle.grammar_spec.specs.Reader.Statements as reads;
-ghost use Rattle.parse_state.specs.Answers.{Falls, Gives, Stays};
 ghost use Rattle.parse_state.specs.Codes.{code_of};
 ghost use Rattle.parse_state.specs.Cursors.{stream_of};
 ghost use Rattle.parse_state.specs.States.{from, state_of};
+ghost use Rattle.parse_state.specs.Reads.{Shorter, NotLonger};
+ghost use Rattle.parse_operands.specs.Rules.{ReadsBy};
 ghost use Rattle.parse_patterns.specs.Items.{named_rest};
 
 use crate::items::item;
@@ -34,9 +35,11 @@ pub fn keyed<'a, I: Tokens<'a> + Drop, N: Nested<'a, I>>(
 ) -> Result<ObjectPatProp, Failure>
     requires ready { N.ready nested.now }
     requires key { fits_prop_name (λ p. p) key }
-    ensures value { Gives (λ x. (view_object_pat_prop inner x, state_of I.state p.new)) (spec.bound (stream_of I.machine) (state_of I.state p.new)) result (reads.keyed_item (stream_of I.machine) (N.reads nested.now I.State I.machine) (code_of code) (from start.0) (view_prop_name inner key) (state_of I.state p.old)) }
+    ensures value { ReadsBy I.machine I.state (N.reads nested.now) p.old p.new result
+        (view_object_pat_prop inner)
+        (λ m r. reads.keyed_item m r (code_of code) (from start.0) (view_prop_name inner key)) }
     ensures fits { IfOk result (λ x. fits_object_pat_prop (λ p. p) x) }
-    ensures shorter { Falls result (spec.bound (stream_of I.machine) (state_of I.state p.new)) (spec.bound (stream_of I.machine) (state_of I.state p.old)) }
+    ensures shorter { Shorter I.machine I.state p.old p.new result }
 {
     let value = item(p, nested, code)?;
     let span = p.since(start);
@@ -54,9 +57,10 @@ pub fn named<'a, I: Tokens<'a> + Drop, N: Nested<'a, I>>(
     sym: Atom,
 ) -> Result<ObjectPatProp, Failure>
     requires ready { N.ready nested.now }
-    ensures value { Gives (λ x. (view_object_pat_prop inner x, state_of I.state p.new)) (spec.bound (stream_of I.machine) (state_of I.state p.new)) result (named_rest (stream_of I.machine) (N.reads nested.now I.State I.machine) (code_of code) span sym (state_of I.state p.old)) }
+    ensures value { ReadsBy I.machine I.state (N.reads nested.now) p.old p.new result
+        (view_object_pat_prop inner) (λ m r. named_rest m r (code_of code) span sym) }
     ensures fits { IfOk result (λ x. fits_object_pat_prop (λ p. p) x) }
-    ensures not_longer { Stays result (spec.bound (stream_of I.machine) (state_of I.state p.new)) (spec.bound (stream_of I.machine) (state_of I.state p.old)) }
+    ensures not_longer { NotLonger I.machine I.state p.old p.new result }
 {
     let key = BindingIdent {
         span,
@@ -88,9 +92,10 @@ pub fn word_property<'a, I: Tokens<'a> + Drop, N: Nested<'a, I>>(
 ) -> Result<ObjectPatProp, Failure>
     requires ready { N.ready nested.now }
     requires word { spec.is_name (stream_of I.machine) (code_of code) (state_of I.state p.old) ≡ true }
-    ensures value { Gives (λ x. (view_object_pat_prop inner x, state_of I.state p.new)) (spec.bound (stream_of I.machine) (state_of I.state p.new)) result (reads.pattern_prop (stream_of I.machine) (N.reads nested.now I.State I.machine) (code_of code) (state_of I.state p.old)) }
+    ensures value { ReadsBy I.machine I.state (N.reads nested.now) p.old p.new result
+        (view_object_pat_prop inner) (λ m r. reads.pattern_prop m r (code_of code)) }
     ensures fits { IfOk result (λ x. fits_object_pat_prop (λ p. p) x) }
-    ensures shorter { Falls result (spec.bound (stream_of I.machine) (state_of I.state p.new)) (spec.bound (stream_of I.machine) (state_of I.state p.old)) }
+    ensures shorter { Shorter I.machine I.state p.old p.new result }
 {
     let start = p.lo();
     let span = p.place();
@@ -111,9 +116,10 @@ pub fn property<'a, I: Tokens<'a> + Drop, N: Nested<'a, I>>(
     code: Around,
 ) -> Result<ObjectPatProp, Failure>
     requires ready { N.ready nested.now }
-    ensures value { Gives (λ x. (view_object_pat_prop inner x, state_of I.state p.new)) (spec.bound (stream_of I.machine) (state_of I.state p.new)) result (reads.pattern_prop (stream_of I.machine) (N.reads nested.now I.State I.machine) (code_of code) (state_of I.state p.old)) }
+    ensures value { ReadsBy I.machine I.state (N.reads nested.now) p.old p.new result
+        (view_object_pat_prop inner) (λ m r. reads.pattern_prop m r (code_of code)) }
     ensures fits { IfOk result (λ x. fits_object_pat_prop (λ p. p) x) }
-    ensures shorter { Falls result (spec.bound (stream_of I.machine) (state_of I.state p.new)) (spec.bound (stream_of I.machine) (state_of I.state p.old)) }
+    ensures shorter { Shorter I.machine I.state p.old p.new result }
 {
     if p.is_name(code) {
         return word_property(p, nested, code);

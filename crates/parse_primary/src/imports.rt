@@ -1,13 +1,12 @@
 //! `import` in an expression: a call, or `import.meta` (ECMA-262, 13.3.10 and 13.3.12).
 ghost use Rattle.std.specs.Prelude.{◌≡◌, false, true};
-ghost use Rattle.grammar_spec.specs.Reader.Source as spec;
 ghost use Rattle.grammar_spec.specs.Reader.Expressions as reads;
-ghost use Rattle.parse_state.specs.Answers.{Falls, Gives};
 ghost use Rattle.parse_state.specs.Codes.{code_of};
 ghost use Rattle.parse_state.specs.Cursors.{stream_of};
-ghost use Rattle.parse_state.specs.States.{state_of};
+ghost use Rattle.parse_state.specs.Reads.{Shorter};
 ghost use Rattle.parse_operands.specs.Operands.{tree_of};
 ghost use Rattle.parse_operands.specs.Lists.{arguments_of};
+ghost use Rattle.parse_operands.specs.Rules.{ReadsBy};
 
 use base_token::SyntaxError;
 use parse_operands::elements::group_items;
@@ -23,7 +22,8 @@ pub fn fits_import<'a, I: Tokens<'a> + Drop, N: Nested<'a, I>>(
     code: Around,
     list: &Arguments,
 ) -> bool
-    ensures { result ≡ reads.fits_import (stream_of I.machine) (N.reads _nested.now I.State I.machine) (code_of code) (arguments_of list.now) }
+    ensures { result ≡ reads.fits_import (stream_of I.machine)
+        (N.reads _nested.now I.State I.machine) (code_of code) (arguments_of list.now) }
 {
     let attributes = code.syntax.import_attributes;
     match list.items.as_slice() {
@@ -42,8 +42,9 @@ pub fn import<'a, I: Tokens<'a> + Drop, N: Nested<'a, I>>(
     code: Around,
 ) -> Result<Operand, Failure>
     requires ready { N.ready nested.now }
-    ensures value { Gives (λ x. (tree_of x, state_of I.state p.new)) (spec.bound (stream_of I.machine) (state_of I.state p.new)) result (reads.import_by (stream_of I.machine) (N.reads nested.now I.State I.machine) (code_of code) (state_of I.state p.old)) }
-    ensures shorter { Falls result (spec.bound (stream_of I.machine) (state_of I.state p.new)) (spec.bound (stream_of I.machine) (state_of I.state p.old)) }
+    ensures value { ReadsBy I.machine I.state (N.reads nested.now) p.old p.new result
+        tree_of (λ m r. reads.import_by m r (code_of code)) }
+    ensures shorter { Shorter I.machine I.state p.old p.new result }
 {
     let start = p.lo();
     let place = p.place();

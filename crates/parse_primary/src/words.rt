@@ -4,11 +4,12 @@ ghost use Rattle.base_token.specs.Kinds.{async_kind};
 ghost use Rattle.grammar_spec.specs.Tokens.Input.{is_word, kind};
 ghost use Rattle.grammar_spec.specs.Reader.Source as spec;
 ghost use Rattle.grammar_spec.specs.Reader.Expressions as reads;
-ghost use Rattle.parse_state.specs.Answers.{Falls, Gives};
 ghost use Rattle.parse_state.specs.Codes.{code_of};
 ghost use Rattle.parse_state.specs.Cursors.{stream_of};
 ghost use Rattle.parse_state.specs.States.{state_of};
+ghost use Rattle.parse_state.specs.Reads.{at_hand, Shorter};
 ghost use Rattle.parse_operands.specs.Operands.{tree_of};
+ghost use Rattle.parse_operands.specs.Rules.{ReadsBy};
 ghost use Rattle.parse_primary.specs.Words as words;
 
 use crate::imports::import;
@@ -33,8 +34,9 @@ fn named<'a, I: Tokens<'a> + Drop, N: Nested<'a, I>>(
 ) -> Result<Operand, Failure>
     requires ready { N.ready nested.now }
     requires other { spec.at (stream_of I.machine) async_kind (state_of I.state p.old) ≡ false }
-    ensures value { Gives (λ x. (tree_of x, state_of I.state p.new)) (spec.bound (stream_of I.machine) (state_of I.state p.new)) result (reads.word_by (stream_of I.machine) (N.reads nested.now I.State I.machine) (code_of code) level (state_of I.state p.old)) }
-    ensures shorter { Falls result (spec.bound (stream_of I.machine) (state_of I.state p.new)) (spec.bound (stream_of I.machine) (state_of I.state p.old)) }
+    ensures value { ReadsBy I.machine I.state (N.reads nested.now) p.old p.new result
+        tree_of (λ m r. reads.word_by m r (code_of code) level) }
+    ensures shorter { Shorter I.machine I.state p.old p.new result }
 {
     let place = p.place();
     let sym = p.name(code)?;
@@ -51,8 +53,9 @@ pub fn word<'a, I: Tokens<'a> + Drop, N: Nested<'a, I>>(
     level: u8,
 ) -> Result<Operand, Failure>
     requires ready { N.ready nested.now }
-    ensures value { Gives (λ x. (tree_of x, state_of I.state p.new)) (spec.bound (stream_of I.machine) (state_of I.state p.new)) result (reads.word_by (stream_of I.machine) (N.reads nested.now I.State I.machine) (code_of code) level (state_of I.state p.old)) }
-    ensures shorter { Falls result (spec.bound (stream_of I.machine) (state_of I.state p.new)) (spec.bound (stream_of I.machine) (state_of I.state p.old)) }
+    ensures value { ReadsBy I.machine I.state (N.reads nested.now) p.old p.new result
+        tree_of (λ m r. reads.word_by m r (code_of code) level) }
+    ensures shorter { Shorter I.machine I.state p.old p.new result }
 {
     if p.at(kinds::ASYNC) {
         return async_expr(p, nested, code, level);
@@ -69,8 +72,9 @@ pub fn super_expr<'a, I: Tokens<'a> + Drop, N: Nested<'a, I>>(
     code: Around,
 ) -> Result<Operand, Failure>
     requires ready { N.ready nested.now }
-    ensures value { Gives (λ x. (tree_of x, state_of I.state p.new)) (spec.bound (stream_of I.machine) (state_of I.state p.new)) result (words.super_by (stream_of I.machine) (N.reads nested.now I.State I.machine) (code_of code) (state_of I.state p.old)) }
-    ensures shorter { Falls result (spec.bound (stream_of I.machine) (state_of I.state p.new)) (spec.bound (stream_of I.machine) (state_of I.state p.old)) }
+    ensures value { ReadsBy I.machine I.state (N.reads nested.now) p.old p.new result
+        tree_of (λ m r. words.super_by m r (code_of code)) }
+    ensures shorter { Shorter I.machine I.state p.old p.new result }
 {
     let place = p.place();
     p.eat_word(code, kinds::SUPER)?;
@@ -87,9 +91,10 @@ pub fn operator_word<'a, I: Tokens<'a> + Drop, N: Nested<'a, I>>(
     level: u8,
 ) -> Result<Operand, Failure>
     requires ready { N.ready nested.now }
-    requires word { is_word (kind (spec.input (stream_of I.machine) (state_of I.state p.old))) ≡ true }
-    ensures value { Gives (λ x. (tree_of x, state_of I.state p.new)) (spec.bound (stream_of I.machine) (state_of I.state p.new)) result (words.operator_word (stream_of I.machine) (N.reads nested.now I.State I.machine) (code_of code) level (state_of I.state p.old)) }
-    ensures shorter { Falls result (spec.bound (stream_of I.machine) (state_of I.state p.new)) (spec.bound (stream_of I.machine) (state_of I.state p.old)) }
+    requires word { is_word (kind (at_hand I.machine I.state p.old)) ≡ true }
+    ensures value { ReadsBy I.machine I.state (N.reads nested.now) p.old p.new result
+        tree_of (λ m r. words.operator_word m r (code_of code) level) }
+    ensures shorter { Shorter I.machine I.state p.old p.new result }
 {
     if let Some(op) = unary_op(p.kind()) {
         return unary(p, nested, code, op);
@@ -113,9 +118,10 @@ pub fn member_word<'a, I: Tokens<'a> + Drop, N: Nested<'a, I>>(
     level: u8,
 ) -> Result<Operand, Failure>
     requires ready { N.ready nested.now }
-    requires word { is_word (kind (spec.input (stream_of I.machine) (state_of I.state p.old))) ≡ true }
-    ensures value { Gives (λ x. (tree_of x, state_of I.state p.new)) (spec.bound (stream_of I.machine) (state_of I.state p.new)) result (words.member_word (stream_of I.machine) (N.reads nested.now I.State I.machine) (code_of code) level (state_of I.state p.old)) }
-    ensures shorter { Falls result (spec.bound (stream_of I.machine) (state_of I.state p.new)) (spec.bound (stream_of I.machine) (state_of I.state p.old)) }
+    requires word { is_word (kind (at_hand I.machine I.state p.old)) ≡ true }
+    ensures value { ReadsBy I.machine I.state (N.reads nested.now) p.old p.new result
+        tree_of (λ m r. words.member_word m r (code_of code) level) }
+    ensures shorter { Shorter I.machine I.state p.old p.new result }
 {
     if p.at(kinds::NEW) {
         return new_expr(p, nested, code);
@@ -139,9 +145,10 @@ pub fn definition_word<'a, I: Tokens<'a> + Drop, N: Nested<'a, I>>(
     level: u8,
 ) -> Result<Operand, Failure>
     requires ready { N.ready nested.now }
-    requires word { is_word (kind (spec.input (stream_of I.machine) (state_of I.state p.old))) ≡ true }
-    ensures value { Gives (λ x. (tree_of x, state_of I.state p.new)) (spec.bound (stream_of I.machine) (state_of I.state p.new)) result (words.definition_word (stream_of I.machine) (N.reads nested.now I.State I.machine) (code_of code) level (state_of I.state p.old)) }
-    ensures shorter { Falls result (spec.bound (stream_of I.machine) (state_of I.state p.new)) (spec.bound (stream_of I.machine) (state_of I.state p.old)) }
+    requires word { is_word (kind (at_hand I.machine I.state p.old)) ≡ true }
+    ensures value { ReadsBy I.machine I.state (N.reads nested.now) p.old p.new result
+        tree_of (λ m r. words.definition_word m r (code_of code) level) }
+    ensures shorter { Shorter I.machine I.state p.old p.new result }
 {
     if p.at(kinds::FUNCTION) {
         let start = p.lo();
@@ -163,9 +170,10 @@ pub fn boolean_word<'a, I: Tokens<'a> + Drop, N: Nested<'a, I>>(
     level: u8,
 ) -> Result<Operand, Failure>
     requires ready { N.ready nested.now }
-    requires word { is_word (kind (spec.input (stream_of I.machine) (state_of I.state p.old))) ≡ true }
-    ensures value { Gives (λ x. (tree_of x, state_of I.state p.new)) (spec.bound (stream_of I.machine) (state_of I.state p.new)) result (words.boolean_word (stream_of I.machine) (N.reads nested.now I.State I.machine) (code_of code) level (state_of I.state p.old)) }
-    ensures shorter { Falls result (spec.bound (stream_of I.machine) (state_of I.state p.new)) (spec.bound (stream_of I.machine) (state_of I.state p.old)) }
+    requires word { is_word (kind (at_hand I.machine I.state p.old)) ≡ true }
+    ensures value { ReadsBy I.machine I.state (N.reads nested.now) p.old p.new result
+        tree_of (λ m r. words.boolean_word m r (code_of code) level) }
+    ensures shorter { Shorter I.machine I.state p.old p.new result }
 {
     if p.at(kinds::TRUE) {
         let span = fixed(p, code)?;
@@ -188,9 +196,10 @@ fn own_word<'a, I: Tokens<'a> + Drop, N: Nested<'a, I>>(
     level: u8,
 ) -> Result<Operand, Failure>
     requires ready { N.ready nested.now }
-    requires word { is_word (kind (spec.input (stream_of I.machine) (state_of I.state p.old))) ≡ true }
-    ensures value { Gives (λ x. (tree_of x, state_of I.state p.new)) (spec.bound (stream_of I.machine) (state_of I.state p.new)) result (reads.keyword_by (stream_of I.machine) (N.reads nested.now I.State I.machine) (code_of code) level (state_of I.state p.old)) }
-    ensures shorter { Falls result (spec.bound (stream_of I.machine) (state_of I.state p.new)) (spec.bound (stream_of I.machine) (state_of I.state p.old)) }
+    requires word { is_word (kind (at_hand I.machine I.state p.old)) ≡ true }
+    ensures value { ReadsBy I.machine I.state (N.reads nested.now) p.old p.new result
+        tree_of (λ m r. reads.keyword_by m r (code_of code) level) }
+    ensures shorter { Shorter I.machine I.state p.old p.new result }
 {
     if p.at(kinds::THIS) {
         let span = fixed(p, code)?;
@@ -213,9 +222,10 @@ pub fn keyword<'a, I: Tokens<'a> + Drop, N: Nested<'a, I>>(
     level: u8,
 ) -> Result<Operand, Failure>
     requires ready { N.ready nested.now }
-    requires word { is_word (kind (spec.input (stream_of I.machine) (state_of I.state p.old))) ≡ true }
-    ensures value { Gives (λ x. (tree_of x, state_of I.state p.new)) (spec.bound (stream_of I.machine) (state_of I.state p.new)) result (reads.keyword_by (stream_of I.machine) (N.reads nested.now I.State I.machine) (code_of code) level (state_of I.state p.old)) }
-    ensures shorter { Falls result (spec.bound (stream_of I.machine) (state_of I.state p.new)) (spec.bound (stream_of I.machine) (state_of I.state p.old)) }
+    requires word { is_word (kind (at_hand I.machine I.state p.old)) ≡ true }
+    ensures value { ReadsBy I.machine I.state (N.reads nested.now) p.old p.new result
+        tree_of (λ m r. reads.keyword_by m r (code_of code) level) }
+    ensures shorter { Shorter I.machine I.state p.old p.new result }
 {
     if p.at(kinds::NAME) || p.at(kinds::ASYNC) {
         return word(p, nested, code, level);

@@ -1,13 +1,11 @@
 //! The functions of the tie, as what the rules call.
 ghost use Rattle.std.specs.Prelude.{IfOk};
 ghost use Rattle.tree_nodes.specs.Fits.{fits_block_stmt, fits_class};
-ghost use Rattle.tree_nodes.specs.Placed.{inner, holds_pat, holds_stmt};
-ghost use Rattle.tree_nodes.specs.View.{view_block_stmt, view_class};
-ghost use Rattle.grammar_spec.specs.Reader.Source as spec;
+ghost use Rattle.tree_nodes.specs.Placed.{holds_pat, holds_stmt};
 ghost use Rattle.grammar_spec.specs.Reader.Reading.{readers};
-ghost use Rattle.parse_state.specs.Answers.{Falls, Gives};
 ghost use Rattle.parse_state.specs.Codes.{code_of};
-ghost use Rattle.parse_operands.specs.Operands.{tree_of};
+ghost use Rattle.parse_state.specs.Reads.{ShorterOver};
+ghost use Rattle.parse_operands.specs.Rules.{ReadsExpr, ReadsPat, ReadsStmt, ReadsBody, ReadsClassTail};
 ghost use Rattle.parse_recursion.specs.Nests.{Nests, NestsAt};
 
 use crate::layer::{Inside, Stood};
@@ -39,28 +37,33 @@ impl<
 
     ghost ready = { λ r. record {
       expr : NestsAt r.left (E.pre r.expr) (E.post r.expr) (λ code level old result new. record {
-        value : Gives (λ x. (tree_of x, T.stood new)) (spec.bound T.machine (T.stood new)) result ((readers T.machine r.left).expr (code_of code) level (T.stood old));
-        shorter : Falls result (spec.bound T.machine (T.stood new)) (spec.bound T.machine (T.stood old));
+        value : ReadsExpr T.machine T.stood old new result
+            ((readers T.machine r.left).expr (code_of code) level);
+        shorter : ShorterOver T.machine T.stood old new result;
       });
       pat : Nests r.left (P.pre r.pat) (P.post r.pat) (λ code old result new. record {
-        value : Gives (λ x. (inner x.part.value, T.stood new)) (spec.bound T.machine (T.stood new)) result ((readers T.machine r.left).pat (code_of code) (T.stood old));
+        value : ReadsPat T.machine T.stood old new result
+            ((readers T.machine r.left).pat (code_of code));
         holds : IfOk result (λ x. holds_pat x.part.value);
-        shorter : Falls result (spec.bound T.machine (T.stood new)) (spec.bound T.machine (T.stood old));
+        shorter : ShorterOver T.machine T.stood old new result;
       });
       stmt : Nests r.left (S.pre r.stmt) (S.post r.stmt) (λ code old result new. record {
-        value : Gives (λ x. (inner x.part.value, T.stood new)) (spec.bound T.machine (T.stood new)) result ((readers T.machine r.left).stmt (code_of code) (T.stood old));
+        value : ReadsStmt T.machine T.stood old new result
+            ((readers T.machine r.left).stmt (code_of code));
         holds : IfOk result (λ x. holds_stmt x.part.value);
-        shorter : Falls result (spec.bound T.machine (T.stood new)) (spec.bound T.machine (T.stood old));
+        shorter : ShorterOver T.machine T.stood old new result;
       });
       body : Nests r.left (B.pre r.body) (B.post r.body) (λ code old result new. record {
-        value : Gives (λ x. (view_block_stmt inner x, T.stood new)) (spec.bound T.machine (T.stood new)) result ((readers T.machine r.left).body (code_of code) (T.stood old));
+        value : ReadsBody T.machine T.stood old new result
+            ((readers T.machine r.left).body (code_of code));
         fits : IfOk result (λ x. fits_block_stmt (λ p. p) x);
-        shorter : Falls result (spec.bound T.machine (T.stood new)) (spec.bound T.machine (T.stood old));
+        shorter : ShorterOver T.machine T.stood old new result;
       });
       class_tail : NestsAt r.left (C.pre r.class_tail) (C.post r.class_tail) (λ code whole old result new. record {
-        value : Gives (λ x. (view_class inner x.value, T.stood new)) (spec.bound T.machine (T.stood new)) result ((readers T.machine r.left).class_tail (code_of code) whole.0 (T.stood old));
+        value : ReadsClassTail T.machine T.stood old new result
+            ((readers T.machine r.left).class_tail (code_of code) whole.0);
         fits : IfOk result (λ x. fits_class (λ p. p) x.value);
-        shorter : Falls result (spec.bound T.machine (T.stood new)) (spec.bound T.machine (T.stood old));
+        shorter : ShorterOver T.machine T.stood old new result;
       });
     } };
 

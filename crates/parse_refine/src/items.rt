@@ -21,7 +21,8 @@ use tree_nodes::{
 /// What was read as an expression, as a pattern.
 #[cycle(items)]
 pub fn item(alloc: Global, binds: bool, commas: &[u32], expr: ExprBox) -> Result<PatBox, Failure>
-    ensures value { Gives (λ x. inner x.part.value) 0 result (to_item binds (reverse commas.now) (inner expr.part.value)) }
+    ensures value { Gives (λ x. inner x.part.value) 0 result
+        (to_item binds (reverse commas.now) (inner expr.part.value)) }
     ensures holds { IfOk result (λ x. holds_pat x.part.value) }
 {
     if !is_cover(&expr) {
@@ -66,7 +67,8 @@ pub fn array(
     commas: &[u32],
     node: ArrayLit,
 ) -> Result<ArrayPat, Failure>
-    ensures value { Gives (view_array_pat inner) 0 result (to_item binds (reverse commas.now) (view_array_lit inner node)) }
+    ensures value { Gives (view_array_pat inner) 0 result
+        (to_item binds (reverse commas.now) (view_array_lit inner node)) }
     ensures fits { IfOk result (λ x. fits_array_pat (λ p. p) x) }
 {
     let span = node.span;
@@ -94,7 +96,8 @@ fn elem(
     commas: &[u32],
     elem: Option<ExprOrSpread>,
 ) -> Result<Option<PatBox>, Failure>
-    ensures value { Gives (λ x. element_by (λ y. inner y.part.value) x) 0 result (item_by false binds (reverse commas.now) (element_by (view_expr_or_spread inner) elem)) }
+    ensures value { Gives (λ x. element_by (λ y. inner y.part.value) x) 0 result
+        (item_by false binds (reverse commas.now) (element_by (view_expr_or_spread inner) elem)) }
     ensures fits { IfOk result (λ x. fits_held (λ y. holds_pat y.part.value) x) }
 {
     match elem {
@@ -111,7 +114,8 @@ pub fn element(
     commas: &[u32],
     element: ExprOrSpread,
 ) -> Result<PatBox, Failure>
-    ensures value { Gives (λ x. inner x.part.value) 0 result (to_item binds (reverse commas.now) (view_expr_or_spread inner element)) }
+    ensures value { Gives (λ x. inner x.part.value) 0 result
+        (to_item binds (reverse commas.now) (view_expr_or_spread inner element)) }
     ensures holds { IfOk result (λ x. holds_pat x.part.value) }
 {
     let pat = item(alloc, binds, commas, element.expr)?;
@@ -128,6 +132,7 @@ pub fn is_rest_prop(prop: &PropOrSpread) -> bool
 {
     match prop {
         PropOrSpread::Spread(_) => true,
+        // For the proof: the match shows the kind, and by it no property is spread.
         PropOrSpread::Prop(x) => match &**x {
             Prop::Shorthand(_) => false,
             _ => false,
@@ -158,7 +163,8 @@ pub fn object(
     node: ObjectLit,
 ) -> Result<ObjectPat, Failure>
     requires { fits_object_lit (λ p. p) node }
-    ensures value { Gives (view_object_pat inner) 0 result (to_item binds (reverse commas.now) (view_object_lit inner node)) }
+    ensures value { Gives (view_object_pat inner) 0 result
+        (to_item binds (reverse commas.now) (view_object_lit inner node)) }
     ensures fits { IfOk result (λ x. fits_object_pat (λ p. p) x) }
 {
     let span = node.span;
@@ -187,7 +193,8 @@ fn prop(
     prop: PropOrSpread,
 ) -> Result<ObjectPatProp, Failure>
     requires { fits_prop_or_spread (λ p. p) prop }
-    ensures value { Gives (view_object_pat_prop inner) 0 result (item_by true binds (reverse commas.now) (view_prop_or_spread inner prop)) }
+    ensures value { Gives (view_object_pat_prop inner) 0 result
+        (item_by true binds (reverse commas.now) (view_prop_or_spread inner prop)) }
     ensures fits { IfOk result (λ x. fits_object_pat_prop (λ p. p) x) }
 {
     match prop {
@@ -204,7 +211,8 @@ fn spread(
     commas: &[u32],
     node: SpreadElement,
 ) -> Result<ObjectPatProp, Failure>
-    ensures value { Gives (view_object_pat_prop inner) 0 result (to_item binds (reverse commas.now) (view_spread_element inner node)) }
+    ensures value { Gives (view_object_pat_prop inner) 0 result
+        (to_item binds (reverse commas.now) (view_spread_element inner node)) }
     ensures fits { IfOk result (λ x. fits_object_pat_prop (λ p. p) x) }
 {
     let pat = item(alloc, binds, commas, node.expr)?;
@@ -224,7 +232,8 @@ fn property(
     prop: Prop,
 ) -> Result<ObjectPatProp, Failure>
     requires { fits_prop (λ p. p) prop }
-    ensures value { Gives (view_object_pat_prop inner) 0 result (item_by true binds (reverse commas.now) (view_prop inner prop)) }
+    ensures value { Gives (view_object_pat_prop inner) 0 result
+        (item_by true binds (reverse commas.now) (view_prop inner prop)) }
     ensures fits { IfOk result (λ x. fits_object_pat_prop (λ p. p) x) }
 {
     match prop {

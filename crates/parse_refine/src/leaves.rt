@@ -40,7 +40,8 @@ pub fn is_assign(op: AssignOp) -> bool
 pub fn is_cover(expr: &ExprBox) -> bool
     ensures some { result ≡ true → is_cover (inner expr.now.part.value) ≡ true }
     ensures holds { result ≡ true → holds_expr expr.now.part.value }
-    ensures none { result ≡ false → (binds : Bool) (commas : List ℕ) → to_item binds commas (inner expr.now.part.value) ≡ unfit }
+    ensures none { result ≡ false → (binds : Bool) (commas : List ℕ)
+        → to_item binds commas (inner expr.now.part.value) ≡ unfit }
 {
     match &expr.part.sort {
         PartKind::Expr(x) => match &x.kind {
@@ -50,10 +51,12 @@ pub fn is_cover(expr: &ExprBox) -> bool
             _ => false,
         },
         PartKind::Stmt(x) => {
+            // For the proof: the read shows the kind, and by it no statement is a cover.
             let _ = &x.kind;
             false
         }
         PartKind::Pat(x) => {
+            // For the proof: the read shows the kind, and by it no pattern is a cover.
             let _ = &x.kind;
             false
         }
@@ -86,7 +89,9 @@ pub fn is_structured(pat: &PatBox) -> bool
 /// Whether a pattern has an initialiser.
 fn has_default(pat: &PatBox) -> bool
     requires { holds_pat pat.now.part.value }
-    ensures { (span : Span) → rest_of span (inner pat.now.part.value) ≡ (if result then unfit else Ok (rest_pat span (dots_at span.lo.0) (inner pat.now.part.value))) }
+    ensures { (span : Span) → rest_of span (inner pat.now.part.value)
+        ≡ (if result then unfit else Ok
+        (rest_pat span (dots_at span.lo.0) (inner pat.now.part.value))) }
 {
     matches!(&pat.get().kind, PatKind::Assign(_))
 }
@@ -158,7 +163,8 @@ pub fn default_target(alloc: Global, binds: bool, target: AssignTarget) -> Resul
 #[tactic(auto, using(crate::proofs::Defaults::initialised_is))]
 pub fn default(alloc: Global, binds: bool, node: AssignExpr) -> Result<PatBox, Failure>
     requires { fits_assign_expr (λ p. p) node }
-    ensures value { (commas : List ℕ) → Gives (λ x. inner x.part.value) 0 result (to_item binds commas (view_assign_expr inner node)) }
+    ensures value { (commas : List ℕ) → Gives
+        (λ x. inner x.part.value) 0 result (to_item binds commas (view_assign_expr inner node)) }
     ensures holds { IfOk result (λ x. holds_pat x.part.value) }
 {
     if !is_assign(node.op) {
@@ -173,7 +179,8 @@ pub fn default(alloc: Global, binds: bool, node: AssignExpr) -> Result<PatBox, F
 pub fn leaf(alloc: Global, binds: bool, kind: ExprKind) -> Result<PatBox, Failure>
     requires fits { fits_expr_kind (λ p. p) kind }
     requires leaf { is_leaf (view_expr_kind inner kind) ≡ true }
-    ensures value { (commas : List ℕ) → Gives (λ x. inner x.part.value) 0 result (to_item binds commas (view_expr_kind inner kind)) }
+    ensures value { (commas : List ℕ) → Gives
+        (λ x. inner x.part.value) 0 result (to_item binds commas (view_expr_kind inner kind)) }
     ensures holds { IfOk result (λ x. holds_pat x.part.value) }
 {
     match kind {

@@ -82,7 +82,8 @@ pub fn assign_pat(
 ) -> Result<PatBox, Failure>
     requires left { holds_pat left.part.value }
     requires right { holds_expr right.part.value }
-    ensures value { IfOk result (λ x. inner x.part.value ≡ assign_pat span (inner left.part.value) (inner right.part.value)) }
+    ensures value { IfOk result (λ x. inner x.part.value
+        ≡ assign_pat span (inner left.part.value) (inner right.part.value)) }
     ensures holds { IfOk result (λ x. holds_pat x.part.value) }
     ensures full { IfErr result IsMemory }
 {

@@ -37,7 +37,9 @@ fn all_params(
     commas: &[u32],
     items: Vec<ExprOrSpread>,
 ) -> Result<Vec<PatBox>, Failure>
-    ensures value { Gives (λ x. trees_by (λ y. inner y.part.value) x.items) 0 result (to_items false true (reverse commas.now) (trees_by (view_expr_or_spread inner) items.items)) }
+    ensures value { Gives (λ x. trees_by (λ y. inner y.part.value) x.items) 0 result
+        (to_items false true (reverse commas.now)
+        (trees_by (view_expr_or_spread inner) items.items)) }
     ensures fits { IfOk result (λ x. All (λ y. holds_pat y.part.value) x.items) }
 {
     let mut left = items.len();
@@ -56,11 +58,13 @@ fn all_params(
 #[tactic(auto, using(crate::proofs::Rows::more_left), unfolding(crate::specs::Items::item_by))]
 fn are_items(commas: &[u32], items: &[ExprOrSpread]) -> bool
     requires { All (λ x. fits_expr_or_spread (λ p. p) x) items.now }
-    ensures { result ≡ is_read (to_items false true (reverse commas.now) (trees_by (view_expr_or_spread inner) items.now)) }
+    ensures { result ≡ is_read (to_items false true (reverse commas.now)
+        (trees_by (view_expr_or_spread inner) items.now)) }
 {
     let mut left = items.len();
     for x in items {
         left -= 1;
+        // For the proof: two tests in place of one `||`, so that each way out has a goal of its own.
         if left > 0 && is_rest(x) {
             return false;
         }
@@ -86,7 +90,8 @@ pub fn are_params(commas: &[u32], list: &Arguments) -> bool
 /// What stands between parentheses, as the parameters of an arrow: `parameters_of` is what is read of them, without a stream.
 #[tactic(auto, using(crate::proofs::Rows::items, crate::proofs::Rows::unpacked))]
 pub fn params(alloc: Global, commas: &[u32], list: Arguments) -> Result<Vec<PatBox>, Failure>
-    ensures value { Gives (λ x. map (λ y. inner y.part.value) x.items) 0 result (parameters_of (reverse commas.now) (arguments_of list)) }
+    ensures value { Gives (λ x. map (λ y. inner y.part.value) x.items) 0 result
+        (parameters_of (reverse commas.now) (arguments_of list)) }
     ensures fits { IfOk result (λ x. All (λ y. holds_pat y.part.value) x.items) }
 {
     if list.comma && ends_in_rest(list.items.as_slice()) {

@@ -43,7 +43,9 @@ fn is_default(node: &AssignExpr) -> bool
 /// Whether an expression is an assignment, which is no rest.
 fn is_initialised(expr: &ExprBox) -> bool
     requires { holds_expr expr.now.part.value }
-    ensures { (commas : List ℕ) (s d : Span) → is_read (to_item true commas (expr_or_spread s (Some d) (inner expr.now.part.value))) ≡ (if result then false else is_read (to_item true commas (inner expr.now.part.value))) }
+    ensures { (commas : List ℕ) (s d : Span)
+        → is_read (to_item true commas (expr_or_spread s (Some d) (inner expr.now.part.value)))
+        ≡ (if result then false else is_read (to_item true commas (inner expr.now.part.value))) }
 {
     matches!(&expr.get().kind, ExprKind::Assign(_))
 }
@@ -51,7 +53,8 @@ fn is_initialised(expr: &ExprBox) -> bool
 /// Whether an expression is a name, as the rest of an object is.
 fn is_name(expr: &ExprBox) -> bool
     requires { holds_expr expr.now.part.value }
-    ensures { (commas : List ℕ) (s : Span) → result ≡ is_read (to_item true commas (spread_element s (inner expr.now.part.value))) }
+    ensures { (commas : List ℕ) (s : Span) → result
+        ≡ is_read (to_item true commas (spread_element s (inner expr.now.part.value))) }
 {
     matches!(&expr.get().kind, ExprKind::Ident(_))
 }
@@ -84,6 +87,7 @@ fn is_array(commas: &[u32], node: &ArrayLit) -> bool
     let mut left = node.elems.len();
     for elem in node.elems.as_slice() {
         left -= 1;
+        // For the proof: two tests in place of one `||`, so that each way out has a goal of its own.
         if left > 0 && is_rest_elem(elem) {
             return false;
         }
@@ -99,7 +103,8 @@ fn is_array(commas: &[u32], node: &ArrayLit) -> bool
 #[tactic(auto, unfolding(crate::specs::Items::item_by))]
 fn is_elem(commas: &[u32], elem: &Option<ExprOrSpread>) -> bool
     requires { fits_held (λ x. fits_expr_or_spread (λ p. p) x) elem.now }
-    ensures { result ≡ is_read (item_by false true (reverse commas.now) (element_by (view_expr_or_spread inner) elem.now)) }
+    ensures { result ≡ is_read (item_by false true (reverse commas.now)
+        (element_by (view_expr_or_spread inner) elem.now)) }
 {
     match elem {
         Some(x) => is_element(commas, x),
@@ -132,6 +137,7 @@ fn is_object(commas: &[u32], node: &ObjectLit) -> bool
     let mut left = node.props.len();
     for prop in node.props.as_slice() {
         left -= 1;
+        // For the proof: two tests in place of one `||`, so that each way out has a goal of its own.
         if left > 0 && is_rest_prop(prop) {
             return false;
         }

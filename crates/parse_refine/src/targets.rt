@@ -38,7 +38,8 @@ pub fn target(
     left: ExprBox,
 ) -> Result<AssignTarget, Failure>
     requires { holds_expr left.part.value }
-    ensures value { Gives (λ x. view_assign_target inner x) 0 result (to_target kind (reverse commas.now) (inner left.part.value)) }
+    ensures value { Gives (λ x. view_assign_target inner x) 0 result
+        (to_target kind (reverse commas.now) (inner left.part.value)) }
     ensures fits { IfOk result (λ x. fits_assign_target (λ p. p) x) }
 {
     if !is_target(kind, &left) {

@@ -4,3 +4,4 @@ pub mod Cursors
 pub mod Answers
 pub mod Codes
 pub mod States
+pub mod Reads

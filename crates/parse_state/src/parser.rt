@@ -4,7 +4,7 @@ ghost use Rattle.grammar_spec.specs.Tokens.Input.{brk, brk2, content, escaped, f
 ghost use Rattle.lex_source.specs.Machine.{shown_spot};
 ghost use Rattle.grammar_spec.specs.Reader.Source as spec;
 ghost use Rattle.grammar_spec.specs.Reader.Expressions.{literal};
-ghost use Rattle.parse_state.specs.Answers.{Falls, Gives, IsMemory, IsSyntax, Stays};
+ghost use Rattle.parse_state.specs.Answers.{IsMemory, IsSyntax};
 ghost use Rattle.parse_state.specs.Cursors.{stream_of};
 
 use crate::ahead::Ahead;
@@ -35,6 +35,7 @@ pub struct Parser<'a, I: Tokens<'a> + Drop> {
 }
 
 impl<'a, I: Tokens<'a> + Drop> Parser<'a, I> {
+    ghost use Rattle.parse_state.specs.Reads.{at_hand, to_come, Passes, Shorter, NotLonger};
     ghost use Rattle.parse_state.specs.States.{state_of};
 
     /// Whether the token that comes has this kind.
@@ -50,7 +51,7 @@ impl<'a, I: Tokens<'a> + Drop> Parser<'a, I> {
     #[inline]
     #[tactic(auto, unfolding(crate::specs::Cursors::stream_of))]
     pub fn kind(&self) -> u8
-        ensures { result ≡ kind (spec.input (stream_of I.machine) (state_of I.state self.now)) }
+        ensures { result ≡ kind (at_hand I.machine I.state self.now) }
     {
         self.ahead.kind
     }
@@ -59,7 +60,7 @@ impl<'a, I: Tokens<'a> + Drop> Parser<'a, I> {
     #[inline]
     #[tactic(auto, unfolding(crate::specs::Cursors::stream_of))]
     pub fn breaks(&self) -> bool
-        ensures { result ≡ brk (spec.input (stream_of I.machine) (state_of I.state self.now)) }
+        ensures { result ≡ brk (at_hand I.machine I.state self.now) }
     {
         match &self.ahead.token {
             Some(token) => token.had_line_break,
@@ -70,7 +71,7 @@ impl<'a, I: Tokens<'a> + Drop> Parser<'a, I> {
     /// Where the token that comes begins; at the end, where the last one ended.
     #[tactic(auto, unfolding(crate::specs::Cursors::stream_of))]
     pub fn lo(&self) -> BytePos
-        ensures { result.0 ≡ lo (spec.input (stream_of I.machine) (state_of I.state self.now)) }
+        ensures { result.0 ≡ lo (at_hand I.machine I.state self.now) }
     {
         match &self.ahead.token {
             Some(token) => token.span.lo,
@@ -81,7 +82,7 @@ impl<'a, I: Tokens<'a> + Drop> Parser<'a, I> {
     /// Where the token that comes ends.
     #[tactic(auto, unfolding(crate::specs::Cursors::stream_of))]
     pub fn hi(&self) -> BytePos
-        ensures { result.0 ≡ hi (spec.input (stream_of I.machine) (state_of I.state self.now)) }
+        ensures { result.0 ≡ hi (at_hand I.machine I.state self.now) }
     {
         match &self.ahead.token {
             Some(token) => token.span.hi,
@@ -91,7 +92,7 @@ impl<'a, I: Tokens<'a> + Drop> Parser<'a, I> {
 
     /// The place of the token that comes.
     pub fn place(&self) -> Span
-        ensures { result ≡ first_span (spec.input (stream_of I.machine) (state_of I.state self.now)) }
+        ensures { result ≡ first_span (at_hand I.machine I.state self.now) }
     {
         Span {
             lo: self.lo(),
@@ -117,9 +118,11 @@ impl<'a, I: Tokens<'a> + Drop> Parser<'a, I> {
     /// Want of memory.
     #[tactic(auto, unfolding(crate::specs::Cursors::stream_of))]
     pub fn bump(&mut self) -> Result<(), Failure>
-        ensures value { OnOk result (state_of I.state self.new ≡ spec.past (stream_of I.machine) (state_of I.state self.old)) }
-        ensures shorter { IfOk result (λ _. kind (spec.input (stream_of I.machine) (state_of I.state self.old)) ≢ 0 → spec.bound (stream_of I.machine) (state_of I.state self.new) < spec.bound (stream_of I.machine) (state_of I.state self.old)) }
-        ensures not_longer { Stays result (spec.bound (stream_of I.machine) (state_of I.state self.new)) (spec.bound (stream_of I.machine) (state_of I.state self.old)) }
+        ensures value { OnOk result (state_of I.state self.new
+            ≡ spec.past (stream_of I.machine) (state_of I.state self.old)) }
+        ensures shorter { IfOk result (λ _. kind (at_hand I.machine I.state self.old) ≢ 0
+            → to_come I.machine I.state self.new < to_come I.machine I.state self.old) }
+        ensures not_longer { NotLonger I.machine I.state self.old self.new result }
         ensures full { IfErr result IsMemory }
     {
         let Some(token) = &self.ahead.token else {
@@ -144,9 +147,11 @@ impl<'a, I: Tokens<'a> + Drop> Parser<'a, I> {
     #[tactic(auto, unfolding(crate::specs::Cursors::stream_of))]
     pub fn take(&mut self) -> Result<Option<TokenAndSpan<'a>>, Failure>
         ensures token { IfOk result (λ t. option_map shown_spot t ≡ (state_of I.state self.old).source.first) }
-        ensures value { OnOk result (state_of I.state self.new ≡ spec.past (stream_of I.machine) (state_of I.state self.old)) }
-        ensures shorter { IfOk result (λ _. kind (spec.input (stream_of I.machine) (state_of I.state self.old)) ≢ 0 → spec.bound (stream_of I.machine) (state_of I.state self.new) < spec.bound (stream_of I.machine) (state_of I.state self.old)) }
-        ensures not_longer { Stays result (spec.bound (stream_of I.machine) (state_of I.state self.new)) (spec.bound (stream_of I.machine) (state_of I.state self.old)) }
+        ensures value { OnOk result (state_of I.state self.new
+            ≡ spec.past (stream_of I.machine) (state_of I.state self.old)) }
+        ensures shorter { IfOk result (λ _. kind (at_hand I.machine I.state self.old) ≢ 0
+            → to_come I.machine I.state self.new < to_come I.machine I.state self.old) }
+        ensures not_longer { NotLonger I.machine I.state self.old self.new result }
         ensures full { IfErr result IsMemory }
     {
         let Some(token) = &self.ahead.token else {
@@ -170,8 +175,10 @@ impl<'a, I: Tokens<'a> + Drop> Parser<'a, I> {
     /// Want of memory.
     #[tactic(auto, unfolding(crate::specs::Cursors::stream_of))]
     pub fn second(&self) -> Result<(u8, bool), Failure>
-        ensures kind { IfOk result (λ x. kind (spec.input (stream_of I.machine) (state_of I.state self.now)) ≢ 0 → x.0 ≡ kind2 (spec.input (stream_of I.machine) (state_of I.state self.now))) }
-        ensures breaks { IfOk result (λ x. kind (spec.input (stream_of I.machine) (state_of I.state self.now)) ≢ 0 → x.1 ≡ brk2 (spec.input (stream_of I.machine) (state_of I.state self.now))) }
+        ensures kind { IfOk result (λ x. kind (at_hand I.machine I.state self.now) ≢ 0 → x.0
+            ≡ kind2 (at_hand I.machine I.state self.now)) }
+        ensures breaks { IfOk result (λ x. kind (at_hand I.machine I.state self.now) ≢ 0 → x.1
+            ≡ brk2 (at_hand I.machine I.state self.now)) }
         ensures full { IfErr result IsMemory }
     {
         match self.input.look(Look::Next) {
@@ -188,9 +195,13 @@ impl<'a, I: Tokens<'a> + Drop> Parser<'a, I> {
     /// Want of memory.
     #[tactic(auto, using(crate::proofs::Thirds::thirds), unfolding(crate::specs::Cursors::stream_of))]
     pub fn third(&self) -> Result<(u8, bool), Failure>
-        ensures kind { IfOk result (λ x. x.0 ≡ kind2 (spec.input (stream_of I.machine) (spec.past (stream_of I.machine) (state_of I.state self.now)))) }
-        ensures breaks { IfOk result (λ x. x.1 ≡ brk2 (spec.input (stream_of I.machine) (spec.past (stream_of I.machine) (state_of I.state self.now)))) }
-        ensures rest { IfOk result (λ x. x.0 ≡ kind2 (rest (spec.input (stream_of I.machine) (state_of I.state self.now)))) }
+        ensures kind { IfOk result (λ x. x.0 ≡ kind2
+            (spec.input (stream_of I.machine)
+            (spec.past (stream_of I.machine) (state_of I.state self.now)))) }
+        ensures breaks { IfOk result (λ x. x.1 ≡ brk2
+            (spec.input (stream_of I.machine)
+            (spec.past (stream_of I.machine) (state_of I.state self.now)))) }
+        ensures rest { IfOk result (λ x. x.0 ≡ kind2 (rest (at_hand I.machine I.state self.now))) }
         ensures full { IfErr result IsMemory }
     {
         if self.ahead.token.is_none() {
@@ -206,7 +217,7 @@ impl<'a, I: Tokens<'a> + Drop> Parser<'a, I> {
     /// The text of the word that comes, or nothing.
     #[tactic(auto, unfolding(crate::specs::Cursors::stream_of))]
     pub fn text(&self) -> &str
-        ensures { result.now ≡ text (spec.input (stream_of I.machine) (state_of I.state self.now)) }
+        ensures { result.now ≡ text (at_hand I.machine I.state self.now) }
     {
         match &self.ahead.token {
             Some(token) => match &token.token {
@@ -220,8 +231,12 @@ impl<'a, I: Tokens<'a> + Drop> Parser<'a, I> {
     /// Whether the token that comes is a literal: a string, a number or a regular expression.
     #[tactic(auto, unfolding(crate::specs::Cursors::stream_of))]
     pub fn is_literal(&self) -> bool
-        ensures some { result ≡ true → literal (kind (spec.input (stream_of I.machine) (state_of I.state self.now))) (content (spec.input (stream_of I.machine) (state_of I.state self.now))) (first_span (spec.input (stream_of I.machine) (state_of I.state self.now))) ≢ None }
-        ensures none { result ≡ false → literal (kind (spec.input (stream_of I.machine) (state_of I.state self.now))) (content (spec.input (stream_of I.machine) (state_of I.state self.now))) (first_span (spec.input (stream_of I.machine) (state_of I.state self.now))) ≡ None }
+        ensures some { result ≡ true → literal (kind (at_hand I.machine I.state self.now))
+            (content (at_hand I.machine I.state self.now))
+            (first_span (at_hand I.machine I.state self.now)) ≢ None }
+        ensures none { result ≡ false → literal (kind (at_hand I.machine I.state self.now))
+            (content (at_hand I.machine I.state self.now))
+            (first_span (at_hand I.machine I.state self.now)) ≡ None }
     {
         match &self.ahead.token {
             Some(token) => match &token.token {
@@ -242,9 +257,12 @@ impl<'a, I: Tokens<'a> + Drop> Parser<'a, I> {
     pub fn eat(&mut self, kind: u8) -> Result<bool, Failure>
         requires { 0 < kind }
         ensures value { IfOk result (λ b. b ≡ spec.at (stream_of I.machine) kind (state_of I.state self.old)) }
-        ensures state { IfOk result (λ b. state_of I.state self.new ≡ (if b then spec.past (stream_of I.machine) (state_of I.state self.old) else state_of I.state self.old)) }
-        ensures shorter { IfOk result (λ b. IsTrue b → spec.bound (stream_of I.machine) (state_of I.state self.new) < spec.bound (stream_of I.machine) (state_of I.state self.old)) }
-        ensures not_longer { Stays result (spec.bound (stream_of I.machine) (state_of I.state self.new)) (spec.bound (stream_of I.machine) (state_of I.state self.old)) }
+        ensures state { IfOk result (λ b. state_of I.state self.new
+            ≡ (if b then spec.past (stream_of I.machine) (state_of I.state self.old) else state_of
+            I.state self.old)) }
+        ensures shorter { IfOk result (λ b. IsTrue b → to_come I.machine I.state self.new
+            < to_come I.machine I.state self.old) }
+        ensures not_longer { NotLonger I.machine I.state self.old self.new result }
         ensures full { IfErr result IsMemory }
     {
         if self.at(kind) {
@@ -296,8 +314,8 @@ impl<'a, I: Tokens<'a> + Drop> Parser<'a, I> {
     #[tactic(auto, unfolding(grammar_spec::specs::Reader::Source::eat))]
     pub fn expect(&mut self, kind: u8) -> Result<(), Failure>
         requires { 0 < kind }
-        ensures value { Gives (λ _. state_of I.state self.new) (spec.bound (stream_of I.machine) (state_of I.state self.new)) result (spec.eat (stream_of I.machine) kind (state_of I.state self.old)) }
-        ensures shorter { Falls result (spec.bound (stream_of I.machine) (state_of I.state self.new)) (spec.bound (stream_of I.machine) (state_of I.state self.old)) }
+        ensures value { Passes I.machine I.state self.old self.new result (λ m. spec.eat m kind) }
+        ensures shorter { Shorter I.machine I.state self.old self.new result }
     {
         if self.eat(kind)? {
             Ok(())
@@ -314,8 +332,8 @@ impl<'a, I: Tokens<'a> + Drop> Parser<'a, I> {
     #[tactic(auto, unfolding(grammar_spec::specs::Reader::Source::eat))]
     pub fn expect_or(&mut self, kind: u8, span: Span, fault: SyntaxError) -> Result<(), Failure>
         requires { 0 < kind }
-        ensures value { Gives (λ _. state_of I.state self.new) (spec.bound (stream_of I.machine) (state_of I.state self.new)) result (spec.eat (stream_of I.machine) kind (state_of I.state self.old)) }
-        ensures shorter { Falls result (spec.bound (stream_of I.machine) (state_of I.state self.new)) (spec.bound (stream_of I.machine) (state_of I.state self.old)) }
+        ensures value { Passes I.machine I.state self.old self.new result (λ m. spec.eat m kind) }
+        ensures shorter { Shorter I.machine I.state self.old self.new result }
     {
         if self.eat(kind)? {
             Ok(())
@@ -326,7 +344,7 @@ impl<'a, I: Tokens<'a> + Drop> Parser<'a, I> {
 
     /// Whether the token that comes is a word.
     pub fn is_word(&self) -> bool
-        ensures { result ≡ is_word (kind (spec.input (stream_of I.machine) (state_of I.state self.now))) }
+        ensures { result ≡ is_word (kind (at_hand I.machine I.state self.now)) }
     {
         self.kind() >= kinds::NULL
     }
@@ -334,7 +352,7 @@ impl<'a, I: Tokens<'a> + Drop> Parser<'a, I> {
     /// Whether the token that comes is a word that is spelled with an escape: its span is longer than its text.
     #[tactic(auto, unfolding(crate::specs::Cursors::stream_of))]
     pub fn is_escaped(&self) -> bool
-        ensures { result ≡ escaped (spec.input (stream_of I.machine) (state_of I.state self.now)) }
+        ensures { result ≡ escaped (at_hand I.machine I.state self.now) }
     {
         match &self.ahead.token {
             Some(token) => match &token.token {

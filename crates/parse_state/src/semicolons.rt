@@ -4,9 +4,8 @@ ghost use Rattle.base_token.specs.Kinds.{dot_kind};
 ghost use Rattle.grammar_spec.specs.Tokens.Input.{kind, kind2};
 ghost use Rattle.grammar_spec.specs.Tokens.Operators as ops;
 ghost use Rattle.grammar_spec.specs.Reader.Source as spec;
-ghost use Rattle.parse_state.specs.Answers.{Gives, IsMemory, Stays};
+ghost use Rattle.parse_state.specs.Answers.{IsMemory};
 ghost use Rattle.parse_state.specs.Codes.{code_of};
-ghost use Rattle.parse_state.specs.Cursors.{stream_of};
 
 use crate::code::Around;
 use crate::failure::Failure;
@@ -20,12 +19,12 @@ use crate::parser::Parser;
 use lex_source::Tokens;
 
 impl<'a, I: Tokens<'a> + Drop> Parser<'a, I> {
-    ghost use Rattle.parse_state.specs.States.{state_of};
+    ghost use Rattle.parse_state.specs.Reads.{at_hand, Passes, NotLonger};
 
     /// Whether a `?` is followed by a dot, and so starts a chain.
     fn is_chain_mark(&self) -> Result<bool, Failure>
-        requires { kind (spec.input (stream_of I.machine) (state_of I.state self.now)) ≡ 19 }
-        ensures value { IfOk result (λ b. b ≡ nat_eq (kind2 (spec.input (stream_of I.machine) (state_of I.state self.now))) dot_kind) }
+        requires { kind (at_hand I.machine I.state self.now) ≡ 19 }
+        ensures value { IfOk result (λ b. b ≡ nat_eq (kind2 (at_hand I.machine I.state self.now)) dot_kind) }
         ensures full { IfErr result IsMemory }
     {
         let (second, _) = self.second()?;
@@ -34,8 +33,8 @@ impl<'a, I: Tokens<'a> + Drop> Parser<'a, I> {
 
     /// The level of what goes on after an operand that ends so, where that isn't a `?`.
     fn goes_plainly(&self, code: Around, end: u8) -> u8
-        requires { kind (spec.input (stream_of I.machine) (state_of I.state self.now)) ≢ 19 }
-        ensures { result ≡ ops.goes_expr (code_of code) end (spec.input (stream_of I.machine) (state_of I.state self.now)) }
+        requires { kind (at_hand I.machine I.state self.now) ≢ 19 }
+        ensures { result ≡ ops.goes_expr (code_of code) end (at_hand I.machine I.state self.now) }
     {
         let kind = self.kind();
         if kind == kinds::COMMA {
@@ -68,7 +67,7 @@ impl<'a, I: Tokens<'a> + Drop> Parser<'a, I> {
     /// Want of memory.
     #[inline(always)]
     pub fn goes(&self, code: Around, end: u8) -> Result<u8, Failure>
-        ensures value { IfOk result (λ l. l ≡ ops.goes_expr (code_of code) end (spec.input (stream_of I.machine) (state_of I.state self.now))) }
+        ensures value { IfOk result (λ l. l ≡ ops.goes_expr (code_of code) end (at_hand I.machine I.state self.now)) }
         ensures full { IfErr result IsMemory }
     {
         if !self.at(kinds::QUESTION_MARK) {
@@ -89,7 +88,7 @@ impl<'a, I: Tokens<'a> + Drop> Parser<'a, I> {
     ///
     /// Want of memory.
     pub fn goes_on(&self, code: Around, end: u8) -> Result<bool, Failure>
-        ensures value { IfOk result (λ b. b ≡ ops.goes_on (code_of code) end (spec.input (stream_of I.machine) (state_of I.state self.now))) }
+        ensures value { IfOk result (λ b. b ≡ ops.goes_on (code_of code) end (at_hand I.machine I.state self.now)) }
         ensures full { IfErr result IsMemory }
     {
         if end <= CLOSED_END {
@@ -107,7 +106,7 @@ impl<'a, I: Tokens<'a> + Drop> Parser<'a, I> {
     /// The same of a binding, a field, or a part of an import or export.
     fn goes_on_item(&self, code: Around, end: u8) -> bool
         requires { 3 < end }
-        ensures { result ≡ ops.goes_on (code_of code) end (spec.input (stream_of I.machine) (state_of I.state self.now)) }
+        ensures { result ≡ ops.goes_on (code_of code) end (at_hand I.machine I.state self.now) }
     {
         let kind = self.kind();
         let opens = kind == kinds::ASSIGN || kind == kinds::LEFT_PAREN;
@@ -134,7 +133,7 @@ impl<'a, I: Tokens<'a> + Drop> Parser<'a, I> {
     ///
     /// Want of memory.
     pub fn pauses(&self, code: Around, end: u8) -> Result<bool, Failure>
-        ensures value { IfOk result (λ b. b ≡ ops.pauses (code_of code) end (spec.input (stream_of I.machine) (state_of I.state self.now))) }
+        ensures value { IfOk result (λ b. b ≡ ops.pauses (code_of code) end (at_hand I.machine I.state self.now)) }
         ensures full { IfErr result IsMemory }
     {
         if self.at(kinds::RIGHT_BRACE) || self.at(kinds::END) {
@@ -154,8 +153,9 @@ impl<'a, I: Tokens<'a> + Drop> Parser<'a, I> {
     /// A fault where one is needed.
     #[tactic(auto, unfolding(grammar_spec::specs::Reader::Source::end_of))]
     pub fn end_of(&mut self, code: Around, end: u8) -> Result<(), Failure>
-        ensures value { Gives (λ _. state_of I.state self.new) (spec.bound (stream_of I.machine) (state_of I.state self.new)) result (spec.end_of (stream_of I.machine) (code_of code) end (state_of I.state self.old)) }
-        ensures not_longer { Stays result (spec.bound (stream_of I.machine) (state_of I.state self.new)) (spec.bound (stream_of I.machine) (state_of I.state self.old)) }
+        ensures value { Passes I.machine I.state self.old self.new result
+            (λ m. spec.end_of m (code_of code) end) }
+        ensures not_longer { NotLonger I.machine I.state self.old self.new result }
     {
         if self.eat(kinds::SEMICOLON)? {
             return Ok(());

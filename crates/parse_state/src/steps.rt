@@ -3,7 +3,7 @@ ghost use Rattle.std.specs.Prelude.{◌≡◌, ◌<◌, ◌≤◌, false, true, 
 ghost use Rattle.grammar_spec.specs.Tokens.Input.{barred, kind};
 ghost use Rattle.lex_source.specs.Machine.{shown_spot};
 ghost use Rattle.grammar_spec.specs.Reader.Source as spec;
-ghost use Rattle.parse_state.specs.Answers.{Falls, Gives, IsMemory, Stays};
+ghost use Rattle.parse_state.specs.Answers.{IsMemory};
 ghost use Rattle.parse_state.specs.Codes.{code_of};
 ghost use Rattle.parse_state.specs.Cursors.{again_in, in_place, is_slash, kind_in, stream_of};
 
@@ -29,11 +29,12 @@ fn in_place(slash: &TokenAndSpan<'_>, token: &TokenAndSpan<'_>) -> bool
 }
 
 impl<'a, I: Tokens<'a> + Drop> Parser<'a, I> {
+    ghost use Rattle.parse_state.specs.Reads.{at_hand, ReadsAs, Passes, Shorter, NotLonger};
     ghost use Rattle.parse_state.specs.States.{noted, state_of};
 
     /// Whether an escape bars the word that comes from being a word of the grammar or a name.
     pub fn is_barred(&self, context: Context) -> bool
-        ensures { result ≡ barred context (spec.input (stream_of I.machine) (state_of I.state self.now)) }
+        ensures { result ≡ barred context (at_hand I.machine I.state self.now) }
     {
         let kind = self.kind();
         self.is_escaped() && (no_name(context, kind) || (strict_reserved(kind) && context.strict))
@@ -76,8 +77,9 @@ impl<'a, I: Tokens<'a> + Drop> Parser<'a, I> {
     #[tactic(auto, unfolding(grammar_spec::specs::Reader::Source::eat_word))]
     pub fn eat_word(&mut self, code: Around, kind: u8) -> Result<(), Failure>
         requires { 0 < kind }
-        ensures value { Gives (λ _. state_of I.state self.new) (spec.bound (stream_of I.machine) (state_of I.state self.new)) result (spec.eat_word (stream_of I.machine) (code_of code) kind (state_of I.state self.old)) }
-        ensures shorter { Falls result (spec.bound (stream_of I.machine) (state_of I.state self.new)) (spec.bound (stream_of I.machine) (state_of I.state self.old)) }
+        ensures value { Passes I.machine I.state self.old self.new result
+            (λ m. spec.eat_word m (code_of code) kind) }
+        ensures shorter { Shorter I.machine I.state self.old self.new result }
     {
         if !self.is_barred(code.context) && self.eat(kind)? {
             return Ok(());
@@ -92,8 +94,8 @@ impl<'a, I: Tokens<'a> + Drop> Parser<'a, I> {
     /// Any other token is a fault.
     #[tactic(auto, unfolding(grammar_spec::specs::Reader::Source::any_word))]
     pub fn any_word(&mut self) -> Result<Atom, Failure>
-        ensures value { Gives (λ n. (n, state_of I.state self.new)) (spec.bound (stream_of I.machine) (state_of I.state self.new)) result (spec.any_word (stream_of I.machine) (state_of I.state self.old)) }
-        ensures shorter { Falls result (spec.bound (stream_of I.machine) (state_of I.state self.new)) (spec.bound (stream_of I.machine) (state_of I.state self.old)) }
+        ensures value { ReadsAs I.machine I.state self.old self.new result (λ n. n) spec.any_word }
+        ensures shorter { Shorter I.machine I.state self.old self.new result }
     {
         if !self.is_word() {
             return Err(self.unexpected());
@@ -110,8 +112,9 @@ impl<'a, I: Tokens<'a> + Drop> Parser<'a, I> {
     /// Any other token is a fault.
     #[tactic(auto, unfolding(grammar_spec::specs::Reader::Source::name))]
     pub fn name(&mut self, code: Around) -> Result<Atom, Failure>
-        ensures value { Gives (λ n. (n, state_of I.state self.new)) (spec.bound (stream_of I.machine) (state_of I.state self.new)) result (spec.name (stream_of I.machine) (code_of code) (state_of I.state self.old)) }
-        ensures shorter { Falls result (spec.bound (stream_of I.machine) (state_of I.state self.new)) (spec.bound (stream_of I.machine) (state_of I.state self.old)) }
+        ensures value { ReadsAs I.machine I.state self.old self.new result
+            (λ n. n) (λ m. spec.name m (code_of code)) }
+        ensures shorter { Shorter I.machine I.state self.old self.new result }
     {
         if !self.is_name(code) {
             return Err(self.unexpected());
@@ -131,8 +134,11 @@ impl<'a, I: Tokens<'a> + Drop> Parser<'a, I> {
     ///
     /// Want of memory.
     fn again(&self, slash: &TokenAndSpan<'a>) -> Result<Option<u8>, Failure>
-        ensures value { IfOk result (λ x. MatchOption x (in_place (shown_spot slash.now) (again_in I.machine (shown_spot slash.now) (I.state self.now.input)) ≡ false)
-            (λ k. (in_place (shown_spot slash.now) (again_in I.machine (shown_spot slash.now) (I.state self.now.input)) ≡ true)
+        ensures value { IfOk result (λ x. MatchOption x
+            (in_place (shown_spot slash.now)
+            (again_in I.machine (shown_spot slash.now) (I.state self.now.input)) ≡ false)
+            (λ k. (in_place (shown_spot slash.now)
+            (again_in I.machine (shown_spot slash.now) (I.state self.now.input)) ≡ true)
             × (k ≡ kind_in (again_in I.machine (shown_spot slash.now) (I.state self.now.input))))) }
         ensures full { IfErr result IsMemory }
     {
@@ -152,8 +158,9 @@ impl<'a, I: Tokens<'a> + Drop> Parser<'a, I> {
     #[inline]
     #[tactic(auto, unfolding(crate::specs::Cursors::stream_of))]
     pub fn operand(&mut self) -> Result<(), Failure>
-        ensures value { OnOk result (state_of I.state self.new ≡ spec.operand (stream_of I.machine) (state_of I.state self.old)) }
-        ensures not_longer { Stays result (spec.bound (stream_of I.machine) (state_of I.state self.new)) (spec.bound (stream_of I.machine) (state_of I.state self.old)) }
+        ensures value { OnOk result (state_of I.state self.new
+            ≡ spec.operand (stream_of I.machine) (state_of I.state self.old)) }
+        ensures not_longer { NotLonger I.machine I.state self.old self.new result }
         ensures full { IfErr result IsMemory }
     {
         if !self.at(kinds::DIV) && !self.at(kinds::DIV_ASSIGN) {
@@ -170,9 +177,10 @@ impl<'a, I: Tokens<'a> + Drop> Parser<'a, I> {
     #[inline(never)]
     #[tactic(auto, unfolding(crate::specs::Cursors::stream_of))]
     fn reread(&mut self) -> Result<(), Failure>
-        requires slash { is_slash (kind (spec.input (stream_of I.machine) (state_of I.state self.old))) ≡ true }
-        ensures value { OnOk result (state_of I.state self.new ≡ spec.operand (stream_of I.machine) (state_of I.state self.old)) }
-        ensures not_longer { Stays result (spec.bound (stream_of I.machine) (state_of I.state self.new)) (spec.bound (stream_of I.machine) (state_of I.state self.old)) }
+        requires slash { is_slash (kind (at_hand I.machine I.state self.old)) ≡ true }
+        ensures value { OnOk result (state_of I.state self.new
+            ≡ spec.operand (stream_of I.machine) (state_of I.state self.old)) }
+        ensures not_longer { NotLonger I.machine I.state self.old self.new result }
         ensures full { IfErr result IsMemory }
     {
         let Some(slash) = &self.ahead.token else {
@@ -199,8 +207,10 @@ impl<'a, I: Tokens<'a> + Drop> Parser<'a, I> {
     #[inline(never)]
     #[tactic(auto, unfolding(crate::specs::Cursors::stream_of))]
     pub fn reread_kind(&self) -> Result<u8, Failure>
-        requires slash { is_slash (kind (spec.input (stream_of I.machine) (state_of I.state self.now))) ≡ true }
-        ensures value { IfOk result (λ k. k ≡ kind (spec.input (stream_of I.machine) (spec.operand (stream_of I.machine) (state_of I.state self.now)))) }
+        requires slash { is_slash (kind (at_hand I.machine I.state self.now)) ≡ true }
+        ensures value { IfOk result (λ k. k ≡ kind
+            (spec.input (stream_of I.machine)
+            (spec.operand (stream_of I.machine) (state_of I.state self.now)))) }
         ensures full { IfErr result IsMemory }
     {
         let Some(slash) = &self.ahead.token else {

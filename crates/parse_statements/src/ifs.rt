@@ -6,11 +6,14 @@ ghost use Rattle.tree_nodes.specs.Placed.{holds_stmt, inner};
 ghost use Rattle.tree_spec.specs.Tree.{part_by};
 ghost use Rattle.grammar_spec.specs.Reader.Source as spec;
 ghost use Rattle.grammar_spec.specs.Reader.Statements as reads;
-ghost use Rattle.parse_state.specs.Answers.{Falls, Gives, going_on, IsMemory, Stays};
+ghost use Rattle.parse_state.specs.Answers.{going_on, IsMemory};
 ghost use Rattle.parse_state.specs.Codes.{code_of};
 ghost use Rattle.parse_state.specs.Cursors.{stream_of};
 ghost use Rattle.parse_state.specs.States.{state_of};
 ghost use Rattle.grammar_spec.specs.Tokens.Input as input;
+ghost use Rattle.parse_state.specs.Reads.{Shorter, NotLonger};
+ghost use Rattle.parse_operands.specs.Rules.{ReadsBy};
+ghost use Rattle.parse_operands.specs.Operands.{tree_in};
 ghost use Rattle.parse_statements.specs.Lists.{branch_of, chain_of, chain_items, FitBranches, FitChain};
 
 use base_token::{BytePos, Span};
@@ -46,7 +49,9 @@ pub struct Links {
 /// Want of memory.
 #[tactic(auto, unfolding(parse_state::specs::Cursors::stream_of))]
 pub fn operand_kind<'a, I: Tokens<'a> + Drop>(p: &Parser<'a, I>) -> Result<u8, Failure>
-    ensures value { IfOk result (λ k. k ≡ kind (spec.input (stream_of I.machine) (spec.operand (stream_of I.machine) (state_of I.state p.now)))) }
+    ensures value { IfOk result (λ k. k ≡ kind
+        (spec.input (stream_of I.machine)
+        (spec.operand (stream_of I.machine) (state_of I.state p.now)))) }
     ensures full { IfErr result IsMemory }
 {
     match p.kind() {
@@ -67,10 +72,11 @@ pub fn alternative<'a, I: Tokens<'a> + Drop, N: Nested<'a, I>>(
     requires ready { N.ready nested.now }
     requires fits { FitChain chain.old }
     requires last { chain.old.last ≡ None }
-    ensures value { Gives (λ x. (going_on x (chain_of chain.new), state_of I.state p.new)) (spec.bound (stream_of I.machine) (state_of I.state p.new)) result (reads.else_by (stream_of I.machine) (N.reads nested.now I.State I.machine) (chain_of chain.old) (state_of I.state p.old)) }
+    ensures value { ReadsBy I.machine I.state (N.reads nested.now) p.old p.new result
+        (λ x. going_on x (chain_of chain.new)) (λ m r. reads.else_by m r (chain_of chain.old)) }
     ensures fits { IfOk result (λ x. FitChain chain.new) }
     ensures kept { IfOk result (λ _. chain.new.branches ≡ chain.old.branches) }
-    ensures not_longer { Stays result (spec.bound (stream_of I.machine) (state_of I.state p.new)) (spec.bound (stream_of I.machine) (state_of I.state p.old)) }
+    ensures not_longer { NotLonger I.machine I.state p.old p.new result }
 {
     if operand_kind(p)? == kinds::IF {
         p.operand()?;
@@ -92,10 +98,11 @@ pub fn chain_turn<'a, I: Tokens<'a> + Drop, N: Nested<'a, I>>(
 ) -> Result<bool, Failure>
     requires ready { N.ready nested.now }
     requires fits { FitChain chain.old }
-    ensures value { Gives (λ x. (going_on x (chain_of chain.new), state_of I.state p.new)) (spec.bound (stream_of I.machine) (state_of I.state p.new)) result (reads.if_step (stream_of I.machine) (N.reads nested.now I.State I.machine) (chain_of chain.old) (state_of I.state p.old)) }
+    ensures value { ReadsBy I.machine I.state (N.reads nested.now) p.old p.new result
+        (λ x. going_on x (chain_of chain.new)) (λ m r. reads.if_step m r (chain_of chain.old)) }
     ensures fits { IfOk result (λ x. FitChain chain.new) }
     ensures some { IfOk result (λ _. 0 < length chain.new.branches.items) }
-    ensures shorter { Falls result (spec.bound (stream_of I.machine) (state_of I.state p.new)) (spec.bound (stream_of I.machine) (state_of I.state p.old)) }
+    ensures shorter { Shorter I.machine I.state p.old p.new result }
 {
     let start = p.lo();
     p.eat_word(chain.code, kinds::IF)?;
@@ -123,10 +130,11 @@ pub fn chain<'a, I: Tokens<'a> + Drop, N: Nested<'a, I>>(
     code: Around,
 ) -> Result<Links, Failure>
     requires ready { N.ready nested.now }
-    ensures value { Gives (λ x. (chain_of x, state_of I.state p.new)) (spec.bound (stream_of I.machine) (state_of I.state p.new)) result (chain_items (stream_of I.machine) (N.reads nested.now I.State I.machine) (code_of code) (state_of I.state p.old)) }
+    ensures value { ReadsBy I.machine I.state (N.reads nested.now) p.old p.new result
+        chain_of (λ m r. chain_items m r (code_of code)) }
     ensures fits { IfOk result (λ x. FitChain x) }
     ensures some { IfOk result (λ x. 0 < length x.branches.items) }
-    ensures shorter { Falls result (spec.bound (stream_of I.machine) (state_of I.state p.new)) (spec.bound (stream_of I.machine) (state_of I.state p.old)) }
+    ensures shorter { Shorter I.machine I.state p.old p.new result }
 {
     let mut read = Links {
         branches: Vec::new(p.alloc),
@@ -149,7 +157,9 @@ pub fn chained(
     requires fits { FitBranches branches.items }
     requires last { fits_held (λ x. holds_stmt x.part.value) last }
     requires some { 0 < length branches.items }
-    ensures value { IfOk result (λ x. inner x.part.value ≡ reads.chained hi.0 (map branch_of branches.items) (part_by (λ x. inner x.part.value) last)) }
+    ensures value { IfOk result (λ x. inner x.part.value
+        ≡ reads.chained hi.0 (map branch_of branches.items)
+        (part_by (λ x. inner x.part.value) last)) }
     ensures holds { IfOk result (λ x. holds_stmt x.part.value) }
     ensures full { IfErr result IsMemory }
 {
@@ -180,9 +190,10 @@ pub fn if_stmt<'a, I: Tokens<'a> + Drop, N: Nested<'a, I>>(
     code: Around,
 ) -> Result<StmtBox, Failure>
     requires ready { N.ready nested.now }
-    ensures value { Gives (λ x. (inner x.part.value, state_of I.state p.new)) (spec.bound (stream_of I.machine) (state_of I.state p.new)) result (reads.if_by (stream_of I.machine) (N.reads nested.now I.State I.machine) (code_of code) (state_of I.state p.old)) }
+    ensures value { ReadsBy I.machine I.state (N.reads nested.now) p.old p.new result
+        tree_in (λ m r. reads.if_by m r (code_of code)) }
     ensures holds { IfOk result (λ x. holds_stmt x.part.value) }
-    ensures shorter { Falls result (spec.bound (stream_of I.machine) (state_of I.state p.new)) (spec.bound (stream_of I.machine) (state_of I.state p.old)) }
+    ensures shorter { Shorter I.machine I.state p.old p.new result }
 {
     let start = p.lo();
     let read = chain(p, nested, code)?;

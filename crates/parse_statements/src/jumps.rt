@@ -1,15 +1,16 @@
 //! Statements that leave a place: `return`, `throw`, `break`, `continue`; and `debugger`.
 ghost use Rattle.std.specs.Prelude.{◌≡◌, None, ◌||◌, IfOk};
 ghost use Rattle.base_token.specs.Kinds.{break_kind, continue_kind};
-ghost use Rattle.tree_nodes.specs.Placed.{holds_stmt, inner};
+ghost use Rattle.tree_nodes.specs.Placed.{holds_stmt};
 ghost use Rattle.tree_nodes.specs.View.{view_ident};
 ghost use Rattle.tree_spec.specs.Tree.{break_stmt, continue_stmt, part_by};
-ghost use Rattle.grammar_spec.specs.Reader.Source as spec;
 ghost use Rattle.grammar_spec.specs.Reader.Statements as reads;
-ghost use Rattle.parse_state.specs.Answers.{Falls, Gives, Stays};
 ghost use Rattle.parse_state.specs.Codes.{code_of};
 ghost use Rattle.parse_state.specs.Cursors.{stream_of};
 ghost use Rattle.parse_state.specs.States.{state_of};
+ghost use Rattle.parse_state.specs.Reads.{Shorter, NotLonger};
+ghost use Rattle.parse_operands.specs.Rules.{ReadsBy};
+ghost use Rattle.parse_operands.specs.Operands.{tree_in};
 
 use parse_blocks::made;
 use parse_operands::Nested;
@@ -23,7 +24,8 @@ fn ends_here<'a, I: Tokens<'a> + Drop, N: Nested<'a, I>>(
     _nested: &N,
     code: Around,
 ) -> bool
-    ensures { result ≡ reads.ends_here (stream_of I.machine) (N.reads _nested.now I.State I.machine) (code_of code) (state_of I.state p.now) }
+    ensures { result ≡ reads.ends_here (stream_of I.machine) (N.reads _nested.now I.State I.machine)
+        (code_of code) (state_of I.state p.now) }
 {
     p.at(kinds::SEMICOLON) || (p.at(kinds::RIGHT_BRACE) || (p.at(kinds::END) || p.breaks()))
 }
@@ -37,9 +39,10 @@ pub fn return_stmt<'a, I: Tokens<'a> + Drop, N: Nested<'a, I>>(
     code: Around,
 ) -> Result<StmtBox, Failure>
     requires ready { N.ready nested.now }
-    ensures value { Gives (λ x. (inner x.part.value, state_of I.state p.new)) (spec.bound (stream_of I.machine) (state_of I.state p.new)) result (reads.return_by (stream_of I.machine) (N.reads nested.now I.State I.machine) (code_of code) (state_of I.state p.old)) }
+    ensures value { ReadsBy I.machine I.state (N.reads nested.now) p.old p.new result
+        tree_in (λ m r. reads.return_by m r (code_of code)) }
     ensures holds { IfOk result (λ x. holds_stmt x.part.value) }
-    ensures shorter { Falls result (spec.bound (stream_of I.machine) (state_of I.state p.new)) (spec.bound (stream_of I.machine) (state_of I.state p.old)) }
+    ensures shorter { Shorter I.machine I.state p.old p.new result }
 {
     let start = p.lo();
     p.eat_word(code, kinds::RETURN)?;
@@ -61,9 +64,10 @@ pub fn throw_stmt<'a, I: Tokens<'a> + Drop, N: Nested<'a, I>>(
     code: Around,
 ) -> Result<StmtBox, Failure>
     requires ready { N.ready nested.now }
-    ensures value { Gives (λ x. (inner x.part.value, state_of I.state p.new)) (spec.bound (stream_of I.machine) (state_of I.state p.new)) result (reads.throw_by (stream_of I.machine) (N.reads nested.now I.State I.machine) (code_of code) (state_of I.state p.old)) }
+    ensures value { ReadsBy I.machine I.state (N.reads nested.now) p.old p.new result
+        tree_in (λ m r. reads.throw_by m r (code_of code)) }
     ensures holds { IfOk result (λ x. holds_stmt x.part.value) }
-    ensures shorter { Falls result (spec.bound (stream_of I.machine) (state_of I.state p.new)) (spec.bound (stream_of I.machine) (state_of I.state p.old)) }
+    ensures shorter { Shorter I.machine I.state p.old p.new result }
 {
     let start = p.lo();
     p.eat_word(code, kinds::THROW)?;
@@ -84,8 +88,9 @@ pub fn label<'a, I: Tokens<'a> + Drop, N: Nested<'a, I>>(
     code: Around,
 ) -> Result<Option<Ident>, Failure>
     requires ready { N.ready _nested.now }
-    ensures value { Gives (λ x. (part_by view_ident x, state_of I.state p.new)) (spec.bound (stream_of I.machine) (state_of I.state p.new)) result (reads.label_by (stream_of I.machine) (N.reads _nested.now I.State I.machine) (code_of code) (state_of I.state p.old)) }
-    ensures not_longer { Stays result (spec.bound (stream_of I.machine) (state_of I.state p.new)) (spec.bound (stream_of I.machine) (state_of I.state p.old)) }
+    ensures value { ReadsBy I.machine I.state (N.reads _nested.now) p.old p.new result
+        (part_by view_ident) (λ m r. reads.label_by m r (code_of code)) }
+    ensures not_longer { NotLonger I.machine I.state p.old p.new result }
 {
     if ends_here(p, _nested, code) {
         return Ok(None);
@@ -104,9 +109,10 @@ pub fn break_stmt<'a, I: Tokens<'a> + Drop, N: Nested<'a, I>>(
     code: Around,
 ) -> Result<StmtBox, Failure>
     requires ready { N.ready nested.now }
-    ensures value { Gives (λ x. (inner x.part.value, state_of I.state p.new)) (spec.bound (stream_of I.machine) (state_of I.state p.new)) result (reads.jump_by (stream_of I.machine) (N.reads nested.now I.State I.machine) break_kind break_stmt (code_of code) (state_of I.state p.old)) }
+    ensures value { ReadsBy I.machine I.state (N.reads nested.now) p.old p.new result
+        tree_in (λ m r. reads.jump_by m r break_kind break_stmt (code_of code)) }
     ensures holds { IfOk result (λ x. holds_stmt x.part.value) }
-    ensures shorter { Falls result (spec.bound (stream_of I.machine) (state_of I.state p.new)) (spec.bound (stream_of I.machine) (state_of I.state p.old)) }
+    ensures shorter { Shorter I.machine I.state p.old p.new result }
 {
     let start = p.lo();
     p.eat_word(code, kinds::BREAK)?;
@@ -124,9 +130,10 @@ pub fn continue_stmt<'a, I: Tokens<'a> + Drop, N: Nested<'a, I>>(
     code: Around,
 ) -> Result<StmtBox, Failure>
     requires ready { N.ready nested.now }
-    ensures value { Gives (λ x. (inner x.part.value, state_of I.state p.new)) (spec.bound (stream_of I.machine) (state_of I.state p.new)) result (reads.jump_by (stream_of I.machine) (N.reads nested.now I.State I.machine) continue_kind continue_stmt (code_of code) (state_of I.state p.old)) }
+    ensures value { ReadsBy I.machine I.state (N.reads nested.now) p.old p.new result
+        tree_in (λ m r. reads.jump_by m r continue_kind continue_stmt (code_of code)) }
     ensures holds { IfOk result (λ x. holds_stmt x.part.value) }
-    ensures shorter { Falls result (spec.bound (stream_of I.machine) (state_of I.state p.new)) (spec.bound (stream_of I.machine) (state_of I.state p.old)) }
+    ensures shorter { Shorter I.machine I.state p.old p.new result }
 {
     let start = p.lo();
     p.eat_word(code, kinds::CONTINUE)?;
@@ -144,9 +151,10 @@ pub fn debugger_stmt<'a, I: Tokens<'a> + Drop, N: Nested<'a, I>>(
     code: Around,
 ) -> Result<StmtBox, Failure>
     requires ready { N.ready _nested.now }
-    ensures value { Gives (λ x. (inner x.part.value, state_of I.state p.new)) (spec.bound (stream_of I.machine) (state_of I.state p.new)) result (reads.debugger_by (stream_of I.machine) (N.reads _nested.now I.State I.machine) (code_of code) (state_of I.state p.old)) }
+    ensures value { ReadsBy I.machine I.state (N.reads _nested.now) p.old p.new result
+        tree_in (λ m r. reads.debugger_by m r (code_of code)) }
     ensures holds { IfOk result (λ x. holds_stmt x.part.value) }
-    ensures shorter { Falls result (spec.bound (stream_of I.machine) (state_of I.state p.new)) (spec.bound (stream_of I.machine) (state_of I.state p.old)) }
+    ensures shorter { Shorter I.machine I.state p.old p.new result }
 {
     let start = p.lo();
     p.eat_word(code, kinds::DEBUGGER)?;

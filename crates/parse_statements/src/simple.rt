@@ -1,15 +1,14 @@
 //! Statements round an expression: `with`, labels, and an expression by itself.
 ghost use Rattle.std.specs.Prelude.{◌≡◌, ◌&&◌, true, false, IfOk};
 ghost use Rattle.grammar_spec.specs.Tokens.Shape as shape;
-ghost use Rattle.tree_nodes.specs.Placed.{holds_stmt, inner};
+ghost use Rattle.tree_nodes.specs.Placed.{holds_stmt};
 ghost use Rattle.tree_nodes.specs.View.{view_ident};
-ghost use Rattle.grammar_spec.specs.Reader.Source as spec;
 ghost use Rattle.grammar_spec.specs.Reader.Statements as reads;
-ghost use Rattle.parse_state.specs.Answers.{Falls, Gives};
 ghost use Rattle.parse_state.specs.Codes.{code_of};
-ghost use Rattle.parse_state.specs.Cursors.{stream_of};
-ghost use Rattle.parse_state.specs.States.{from, state_of};
-ghost use Rattle.parse_operands.specs.Operands.{tree_of};
+ghost use Rattle.parse_state.specs.States.{from};
+ghost use Rattle.parse_state.specs.Reads.{Shorter};
+ghost use Rattle.parse_operands.specs.Operands.{tree_of, tree_in};
+ghost use Rattle.parse_operands.specs.Rules.{ReadsBy};
 
 use base_token::BytePos;
 use parse_blocks::made;
@@ -28,9 +27,10 @@ pub fn with<'a, I: Tokens<'a> + Drop, N: Nested<'a, I>>(
     code: Around,
 ) -> Result<StmtBox, Failure>
     requires ready { N.ready nested.now }
-    ensures value { Gives (λ x. (inner x.part.value, state_of I.state p.new)) (spec.bound (stream_of I.machine) (state_of I.state p.new)) result (reads.with_by (stream_of I.machine) (N.reads nested.now I.State I.machine) (code_of code) (state_of I.state p.old)) }
+    ensures value { ReadsBy I.machine I.state (N.reads nested.now) p.old p.new result
+        tree_in (λ m r. reads.with_by m r (code_of code)) }
     ensures holds { IfOk result (λ x. holds_stmt x.part.value) }
-    ensures shorter { Falls result (spec.bound (stream_of I.machine) (state_of I.state p.new)) (spec.bound (stream_of I.machine) (state_of I.state p.old)) }
+    ensures shorter { Shorter I.machine I.state p.old p.new result }
 {
     let start = p.lo();
     p.eat_word(code, kinds::WITH)?;
@@ -68,9 +68,10 @@ pub fn labelled<'a, I: Tokens<'a> + Drop, N: Nested<'a, I>>(
     label: Ident,
 ) -> Result<StmtBox, Failure>
     requires ready { N.ready nested.now }
-    ensures value { Gives (λ x. (inner x.part.value, state_of I.state p.new)) (spec.bound (stream_of I.machine) (state_of I.state p.new)) result (reads.labelled_by (stream_of I.machine) (N.reads nested.now I.State I.machine) (code_of code) (from start.0) (view_ident label) (state_of I.state p.old)) }
+    ensures value { ReadsBy I.machine I.state (N.reads nested.now) p.old p.new result
+        tree_in (λ m r. reads.labelled_by m r (code_of code) (from start.0) (view_ident label)) }
     ensures holds { IfOk result (λ x. holds_stmt x.part.value) }
-    ensures shorter { Falls result (spec.bound (stream_of I.machine) (state_of I.state p.new)) (spec.bound (stream_of I.machine) (state_of I.state p.old)) }
+    ensures shorter { Shorter I.machine I.state p.old p.new result }
 {
     p.bump()?;
     let body = sub(p, nested, code, true)?;
@@ -86,9 +87,10 @@ pub fn expression<'a, I: Tokens<'a> + Drop, N: Nested<'a, I>>(
     code: Around,
 ) -> Result<StmtBox, Failure>
     requires ready { N.ready nested.now }
-    ensures value { Gives (λ x. (inner x.part.value, state_of I.state p.new)) (spec.bound (stream_of I.machine) (state_of I.state p.new)) result (reads.expression_by (stream_of I.machine) (N.reads nested.now I.State I.machine) (code_of code) (state_of I.state p.old)) }
+    ensures value { ReadsBy I.machine I.state (N.reads nested.now) p.old p.new result
+        tree_in (λ m r. reads.expression_by m r (code_of code)) }
     ensures holds { IfOk result (λ x. holds_stmt x.part.value) }
-    ensures shorter { Falls result (spec.bound (stream_of I.machine) (state_of I.state p.new)) (spec.bound (stream_of I.machine) (state_of I.state p.old)) }
+    ensures shorter { Shorter I.machine I.state p.old p.new result }
 {
     let start = p.lo();
     let lets = p.at(kinds::LET);

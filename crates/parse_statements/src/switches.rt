@@ -4,12 +4,13 @@ ghost use Rattle.grammar_spec.specs.Tokens.Shape as shape;
 ghost use Rattle.tree_nodes.specs.Fits.{fits_switch_case};
 ghost use Rattle.tree_nodes.specs.Placed.{holds_stmt, inner};
 ghost use Rattle.tree_nodes.specs.View.{view_switch_case};
-ghost use Rattle.grammar_spec.specs.Reader.Source as spec;
 ghost use Rattle.grammar_spec.specs.Reader.Statements as reads;
-ghost use Rattle.parse_state.specs.Answers.{Falls, Gives, going_on, Stays};
+ghost use Rattle.parse_state.specs.Answers.{going_on};
 ghost use Rattle.parse_state.specs.Codes.{code_of};
-ghost use Rattle.parse_state.specs.Cursors.{stream_of};
-ghost use Rattle.parse_state.specs.States.{from, state_of};
+ghost use Rattle.parse_state.specs.States.{from};
+ghost use Rattle.parse_state.specs.Reads.{to_come, Shorter, NotLonger};
+ghost use Rattle.parse_operands.specs.Rules.{ReadsBy};
+ghost use Rattle.parse_operands.specs.Operands.{tree_in};
 ghost use Rattle.parse_statements.specs.Lists.{case_items, switch_cases, cases_of, FitCases, TellsDefault};
 
 use parse_blocks::made;
@@ -38,10 +39,12 @@ pub fn case_turn<'a, I: Tokens<'a> + Drop, N: Nested<'a, I>>(
 ) -> Result<bool, Failure>
     requires ready { N.ready nested.now }
     requires fits { All (λ x. holds_stmt x.part.value) list.old.items }
-    ensures value { Gives (λ x. (going_on x (map (λ y. inner y.part.value) list.new.items), state_of I.state p.new)) (spec.bound (stream_of I.machine) (state_of I.state p.new)) result (reads.case_step (stream_of I.machine) (N.reads nested.now I.State I.machine) (code_of code) (map (λ y. inner y.part.value) list.old.items) (state_of I.state p.old)) }
+    ensures value { ReadsBy I.machine I.state (N.reads nested.now) p.old p.new result
+        (λ x. going_on x (map (λ y. inner y.part.value) list.new.items))
+        (λ m r. reads.case_step m r (code_of code) (map (λ y. inner y.part.value) list.old.items)) }
     ensures fits { IfOk result (λ x. All (λ y. holds_stmt y.part.value) list.new.items) }
-    ensures shorter { IfOk result (λ b. IsTrue b → spec.bound (stream_of I.machine) (state_of I.state p.new) < spec.bound (stream_of I.machine) (state_of I.state p.old)) }
-    ensures not_longer { Stays result (spec.bound (stream_of I.machine) (state_of I.state p.new)) (spec.bound (stream_of I.machine) (state_of I.state p.old)) }
+    ensures shorter { IfOk result (λ b. IsTrue b → to_come I.machine I.state p.new < to_come I.machine I.state p.old) }
+    ensures not_longer { NotLonger I.machine I.state p.old p.new result }
 {
     if p.at(kinds::CASE) || (p.at(kinds::DEFAULT) || p.at(kinds::RIGHT_BRACE)) {
         return Ok(false);
@@ -60,9 +63,10 @@ pub fn case_items<'a, I: Tokens<'a> + Drop, N: Nested<'a, I>>(
     code: Around,
 ) -> Result<Vec<StmtBox>, Failure>
     requires ready { N.ready nested.now }
-    ensures value { Gives (λ x. (map (λ y. inner y.part.value) x.items, state_of I.state p.new)) (spec.bound (stream_of I.machine) (state_of I.state p.new)) result (case_items (stream_of I.machine) (N.reads nested.now I.State I.machine) (code_of code) (state_of I.state p.old)) }
+    ensures value { ReadsBy I.machine I.state (N.reads nested.now) p.old p.new result
+        (λ x. map (λ y. inner y.part.value) x.items) (λ m r. case_items m r (code_of code)) }
     ensures fits { IfOk result (λ x. All (λ y. holds_stmt y.part.value) x.items) }
-    ensures shorter { Falls result (spec.bound (stream_of I.machine) (state_of I.state p.new)) (spec.bound (stream_of I.machine) (state_of I.state p.old)) }
+    ensures shorter { Shorter I.machine I.state p.old p.new result }
 {
     p.expect(kinds::COLON)?;
     let mut list = Vec::new(p.alloc);
@@ -79,9 +83,10 @@ pub fn case<'a, I: Tokens<'a> + Drop, N: Nested<'a, I>>(
     code: Around,
 ) -> Result<SwitchCase, Failure>
     requires ready { N.ready nested.now }
-    ensures value { Gives (λ x. (view_switch_case inner x, state_of I.state p.new)) (spec.bound (stream_of I.machine) (state_of I.state p.new)) result (reads.case_by (stream_of I.machine) (N.reads nested.now I.State I.machine) (code_of code) (state_of I.state p.old)) }
+    ensures value { ReadsBy I.machine I.state (N.reads nested.now) p.old p.new result
+        (view_switch_case inner) (λ m r. reads.case_by m r (code_of code)) }
     ensures fits { IfOk result (λ x. fits_switch_case (λ p. p) x) }
-    ensures shorter { Falls result (spec.bound (stream_of I.machine) (state_of I.state p.new)) (spec.bound (stream_of I.machine) (state_of I.state p.old)) }
+    ensures shorter { Shorter I.machine I.state p.old p.new result }
 {
     let start = p.lo();
     if p.at(kinds::DEFAULT) {
@@ -112,6 +117,7 @@ fn is_default(case: &SwitchCase) -> bool
 {
     match &case.test {
         None => true,
+        // For the proof: the match shows the kind, and by it no expression is left out.
         Some(test) => match &test.get().kind {
             ExprKind::Seq(_) => false,
             _ => false,
@@ -131,10 +137,12 @@ pub fn cases_turn<'a, I: Tokens<'a> + Drop, N: Nested<'a, I>>(
     requires ready { N.ready nested.now }
     requires fits { FitCases cases.old }
     requires tells { TellsDefault cases.old }
-    ensures value { Gives (λ x. (going_on x (cases_of cases.new), state_of I.state p.new)) (spec.bound (stream_of I.machine) (state_of I.state p.new)) result (reads.cases_step (stream_of I.machine) (N.reads nested.now I.State I.machine) (code_of code) (cases_of cases.old) (state_of I.state p.old)) }
+    ensures value { ReadsBy I.machine I.state (N.reads nested.now) p.old p.new result
+        (λ x. going_on x (cases_of cases.new))
+        (λ m r. reads.cases_step m r (code_of code) (cases_of cases.old)) }
     ensures fits { IfOk result (λ x. FitCases cases.new) }
     ensures tells { IfOk result (λ _. TellsDefault cases.new) }
-    ensures shorter { Falls result (spec.bound (stream_of I.machine) (state_of I.state p.new)) (spec.bound (stream_of I.machine) (state_of I.state p.old)) }
+    ensures shorter { Shorter I.machine I.state p.old p.new result }
 {
     if p.eat(kinds::RIGHT_BRACE)? {
         return Ok(false);
@@ -158,9 +166,10 @@ pub fn cases<'a, I: Tokens<'a> + Drop, N: Nested<'a, I>>(
     code: Around,
 ) -> Result<Vec<SwitchCase>, Failure>
     requires ready { N.ready nested.now }
-    ensures value { Gives (λ x. (map (view_switch_case inner) x.items, state_of I.state p.new)) (spec.bound (stream_of I.machine) (state_of I.state p.new)) result (switch_cases (stream_of I.machine) (N.reads nested.now I.State I.machine) (code_of code) (state_of I.state p.old)) }
+    ensures value { ReadsBy I.machine I.state (N.reads nested.now) p.old p.new result
+        (λ x. map (view_switch_case inner) x.items) (λ m r. switch_cases m r (code_of code)) }
     ensures fits { IfOk result (λ x. All (λ x. fits_switch_case (λ p. p) x) x.items) }
-    ensures shorter { Falls result (spec.bound (stream_of I.machine) (state_of I.state p.new)) (spec.bound (stream_of I.machine) (state_of I.state p.old)) }
+    ensures shorter { Shorter I.machine I.state p.old p.new result }
 {
     let mut read = CaseList {
         items: Vec::new(p.alloc),
@@ -179,9 +188,10 @@ pub fn switch<'a, I: Tokens<'a> + Drop, N: Nested<'a, I>>(
     code: Around,
 ) -> Result<StmtBox, Failure>
     requires ready { N.ready nested.now }
-    ensures value { Gives (λ x. (inner x.part.value, state_of I.state p.new)) (spec.bound (stream_of I.machine) (state_of I.state p.new)) result (reads.switch_by (stream_of I.machine) (N.reads nested.now I.State I.machine) (code_of code) (state_of I.state p.old)) }
+    ensures value { ReadsBy I.machine I.state (N.reads nested.now) p.old p.new result
+        tree_in (λ m r. reads.switch_by m r (code_of code)) }
     ensures holds { IfOk result (λ x. holds_stmt x.part.value) }
-    ensures shorter { Falls result (spec.bound (stream_of I.machine) (state_of I.state p.new)) (spec.bound (stream_of I.machine) (state_of I.state p.old)) }
+    ensures shorter { Shorter I.machine I.state p.old p.new result }
 {
     let start = p.lo();
     p.eat_word(code, kinds::SWITCH)?;

@@ -4,12 +4,12 @@ ghost use Rattle.tree_nodes.specs.Fits.{fits_block_stmt, fits_catch_clause, fits
 ghost use Rattle.tree_nodes.specs.Placed.{holds_stmt, inner};
 ghost use Rattle.tree_nodes.specs.View.{view_block_stmt, view_catch_clause};
 ghost use Rattle.tree_spec.specs.Tree.{part_by};
-ghost use Rattle.grammar_spec.specs.Reader.Source as spec;
 ghost use Rattle.grammar_spec.specs.Reader.Statements as reads;
-ghost use Rattle.parse_state.specs.Answers.{Falls, Gives, Stays};
 ghost use Rattle.parse_state.specs.Codes.{code_of};
-ghost use Rattle.parse_state.specs.Cursors.{stream_of};
-ghost use Rattle.parse_state.specs.States.{from, state_of};
+ghost use Rattle.parse_state.specs.States.{from};
+ghost use Rattle.parse_state.specs.Reads.{Shorter, NotLonger};
+ghost use Rattle.parse_operands.specs.Rules.{ReadsBy};
+ghost use Rattle.parse_operands.specs.Operands.{tree_in};
 
 use base_token::BytePos;
 use parse_blocks::blocks::block;
@@ -27,9 +27,10 @@ pub fn catch<'a, I: Tokens<'a> + Drop, N: Nested<'a, I>>(
     code: Around,
 ) -> Result<CatchClause, Failure>
     requires ready { N.ready nested.now }
-    ensures value { Gives (λ x. (view_catch_clause inner x, state_of I.state p.new)) (spec.bound (stream_of I.machine) (state_of I.state p.new)) result (reads.catch_by (stream_of I.machine) (N.reads nested.now I.State I.machine) (code_of code) (state_of I.state p.old)) }
+    ensures value { ReadsBy I.machine I.state (N.reads nested.now) p.old p.new result
+        (view_catch_clause inner) (λ m r. reads.catch_by m r (code_of code)) }
     ensures fits { IfOk result (λ x. fits_catch_clause (λ p. p) x) }
-    ensures shorter { Falls result (spec.bound (stream_of I.machine) (state_of I.state p.new)) (spec.bound (stream_of I.machine) (state_of I.state p.old)) }
+    ensures shorter { Shorter I.machine I.state p.old p.new result }
 {
     let start = p.lo();
     p.eat_word(code, kinds::CATCH)?;
@@ -67,9 +68,12 @@ pub fn finally<'a, I: Tokens<'a> + Drop, N: Nested<'a, I>>(
     requires ready { N.ready nested.now }
     requires body { fits_block_stmt (λ p. p) body }
     requires handler { fits_held (λ x. fits_catch_clause (λ p. p) x) handler }
-    ensures value { Gives (λ x. (inner x.part.value, state_of I.state p.new)) (spec.bound (stream_of I.machine) (state_of I.state p.new)) result (reads.finally_by (stream_of I.machine) (N.reads nested.now I.State I.machine) (code_of code) (from start.0) (view_block_stmt inner body) (part_by (view_catch_clause inner) handler) (state_of I.state p.old)) }
+    ensures value { ReadsBy I.machine I.state (N.reads nested.now) p.old p.new result
+        tree_in
+        (λ m r. reads.finally_by m r (code_of code) (from start.0) (view_block_stmt inner body)
+        (part_by (view_catch_clause inner) handler)) }
     ensures holds { IfOk result (λ x. holds_stmt x.part.value) }
-    ensures not_longer { Stays result (spec.bound (stream_of I.machine) (state_of I.state p.new)) (spec.bound (stream_of I.machine) (state_of I.state p.old)) }
+    ensures not_longer { NotLonger I.machine I.state p.old p.new result }
 {
     if p.at(kinds::FINALLY) && !p.is_barred(code.context) {
         p.eat_word(code, kinds::FINALLY)?;
@@ -91,9 +95,10 @@ pub fn try_stmt<'a, I: Tokens<'a> + Drop, N: Nested<'a, I>>(
     code: Around,
 ) -> Result<StmtBox, Failure>
     requires ready { N.ready nested.now }
-    ensures value { Gives (λ x. (inner x.part.value, state_of I.state p.new)) (spec.bound (stream_of I.machine) (state_of I.state p.new)) result (reads.try_by (stream_of I.machine) (N.reads nested.now I.State I.machine) (code_of code) (state_of I.state p.old)) }
+    ensures value { ReadsBy I.machine I.state (N.reads nested.now) p.old p.new result
+        tree_in (λ m r. reads.try_by m r (code_of code)) }
     ensures holds { IfOk result (λ x. holds_stmt x.part.value) }
-    ensures shorter { Falls result (spec.bound (stream_of I.machine) (state_of I.state p.new)) (spec.bound (stream_of I.machine) (state_of I.state p.old)) }
+    ensures shorter { Shorter I.machine I.state p.old p.new result }
 {
     let start = p.lo();
     p.eat_word(code, kinds::TRY)?;

@@ -66,11 +66,15 @@ filled a b at kept sent wait bytes block rest full begun same e out within none 
     (subst (λ (l : List ℕ). Appends (append_known a wait) (append_known b l) taken) (sym none) (subst (λ (n : ℕ). Appends (append_known a wait) (append_known b []) (take (sent - n) bytes)) (sym same) moved))
 
 -- The bytes wait: they were taken.
+pub waits_all : (a : Option (List ℕ)) (at : ℕ) (wait block bytes : List ℕ) → at + length bytes < 4096 → block ≡ wait ++ bytes
+    → Appends (numbered at (append_known a wait)) (numbered (at + length bytes) (append_known a block)) bytes
+waits_all a at wait block bytes h e =
+    numbered_more (append_known a wait) (append_known a block) at (at + length bytes) bytes (λ count. phase_within at count (length bytes) h) (grown a wait block bytes e)
+
 pub waits_more : (a : Option (List ℕ)) (at : ℕ) (wait block bytes : List ℕ) → at + length bytes < 4096 → block ≡ wait ++ bytes
     → Appends (numbered at (append_known a wait)) (numbered (at + length bytes) (append_known a block)) (take (length bytes) bytes)
 waits_more a at wait block bytes h e =
-    subst (λ (l : List ℕ). Appends (numbered at (append_known a wait)) (numbered (at + length bytes) (append_known a block)) l) (sym (take-length bytes))
-    (numbered_more (append_known a wait) (append_known a block) at (at + length bytes) bytes (λ count. phase_within at count (length bytes) h) (grown a wait block bytes e))
+    subst (λ (l : List ℕ). Appends (numbered at (append_known a wait)) (numbered (at + length bytes) (append_known a block)) l) (sym (take-length bytes)) (waits_all a at wait block bytes h e)
 
 -- who writes to the end of a block, or until more than what waited is out, has handed that out
 pub handed_enough : (sent kept more size : ℕ) → (sent ≤ kept → sent ≡ size) → size ≡ kept + more → kept ≤ sent

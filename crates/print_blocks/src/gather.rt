@@ -135,4 +135,10 @@ impl<W: CountedWrite> CountedWrite for Gather<W> {
         }
         self.write_across(bytes)
     }
+
+    /// Takes the bytes where the block has room for them.
+    #[inline(always)]
+    fn take_all(&mut self, bytes: &[u8]) -> bool {
+        self.block.try_extend_from_slice(bytes).is_ok()
+    }
 }

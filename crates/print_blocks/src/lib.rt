@@ -145,4 +145,15 @@ impl<W: CountedWrite> CountedWrite for Blocks<W> {
         }
         self.fill(&bytes[..room])
     }
+
+    /// Takes the bytes where they don't fill the block.
+    #[inline(always)]
+    fn take_all(&mut self, bytes: &[u8]) -> bool {
+        if bytes.len() < BLOCK - self.at {
+            extend(&mut self.block, bytes);
+            self.at += bytes.len();
+            return true;
+        }
+        false
+    }
 }

@@ -262,4 +262,9 @@ impl<'a, W: WriteJs> WriteJs for WithComments<'a, W> {
     fn care_about_srcmap(&self) -> bool {
         self.wr.care_about_srcmap()
     }
+
+    // By its marks the writer comes to the places of comments.
+    fn needs_marks(&self) -> bool {
+        true
+    }
 }

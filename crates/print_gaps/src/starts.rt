@@ -277,6 +277,7 @@ impl<T: StartsWithAlphaNum> StartsWithAlphaNum for DeclOf<T> {
     ghost tree = { view_decl T.tree };
 
     fn starts_with_alpha_num(&self) -> bool {
+        // For the proof: the match shows which declaration it is, and each starts with a word.
         match self {
             DeclOf::Class(_) => true,
             DeclOf::Fn(_) => true,

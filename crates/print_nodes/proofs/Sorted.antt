@@ -1,86 +1,10 @@
--- Of which sort nodes are, and what is not asked of a sort.
+-- What is not asked of a sort.
 use Rattle.std.proofs.Common.{◌≡◌, ℕ, Bool, true, false, ◌&&◌, ◌||◌, refl, ap, ◌∙◌}
 use Rattle.tree_spec.specs.Tree.{Tree, none, more, block_stmt, var_decl, using_decl, seq_expr, number_lit, unary_expr, update_expr, bin_expr, assign_expr, cond_expr, call_expr, member_expr, opt_chain_expr, opt_call, tagged_tpl, regex_lit, array_pat, rest_pat, object_pat, binding_ident, hole}
 use Rattle.print_gaps.specs.Edges.{is_word_operator, starts_with_word, ends_with_word, gap_before, gap_after, gap_of_unary, first_operand, is_plus, is_minus, is_not_of_decrement, is_postfix_decrement, starts_with_regexp}
-use Rattle.tree_nodes.specs.declared.expressions.ExprKindOf.{ExprKindOf}
-use Rattle.tree_nodes.specs.declared.expressions.ExprKindOf.TheVariants as ExprKind
-use Rattle.tree_nodes.specs.declared.statements.StmtKindOf.{StmtKindOf}
-use Rattle.tree_nodes.specs.declared.statements.StmtKindOf.TheVariants as StmtKind
-use Rattle.tree_nodes.specs.declared.patterns.PatKindOf.{PatKindOf}
-use Rattle.tree_nodes.specs.declared.patterns.PatKindOf.TheVariants as PatKind
-use Rattle.tree_nodes.specs.declared.declarations.DeclOf.TheVariants as Decl
-use Rattle.tree_nodes.specs.declared.literals.Lit.TheVariants as Lit
-use Rattle.tree_nodes.specs.View.{view_expr_kind, view_stmt_kind, view_pat_kind}
 use Rattle.print_layout_spec.specs.Layout.{is_block, is_variables, is_sequence, is_bracketed_name, is_one_name}
 use Rattle.print_nodes.specs.Asks.{is_number, is_hole}
-use Rattle.print_nodes.specs.Sorts.{Sort, expression, statement, pattern, part, sort_of, is_expression, is_statement, is_pattern, is_sorted}
-
-pub expr_sort : {T : Type 0} (f : T → Tree) (k : ExprKindOf T) → sort_of (view_expr_kind f k) ≡ expression
-expr_sort f (ExprKind.This x) = refl
-expr_sort f (ExprKind.Array x) = refl
-expr_sort f (ExprKind.Object x) = refl
-expr_sort f (ExprKind.Fn x) = refl
-expr_sort f (ExprKind.Unary x) = refl
-expr_sort f (ExprKind.Update x) = refl
-expr_sort f (ExprKind.Bin x) = refl
-expr_sort f (ExprKind.Assign x) = refl
-expr_sort f (ExprKind.Member x) = refl
-expr_sort f (ExprKind.SuperProp x) = refl
-expr_sort f (ExprKind.Cond x) = refl
-expr_sort f (ExprKind.Call x) = refl
-expr_sort f (ExprKind.New x) = refl
-expr_sort f (ExprKind.Seq x) = refl
-expr_sort f (ExprKind.Ident x) = refl
-expr_sort f (ExprKind.Tpl x) = refl
-expr_sort f (ExprKind.TaggedTpl x) = refl
-expr_sort f (ExprKind.Arrow x) = refl
-expr_sort f (ExprKind.Class x) = refl
-expr_sort f (ExprKind.Yield x) = refl
-expr_sort f (ExprKind.MetaProp x) = refl
-expr_sort f (ExprKind.Await x) = refl
-expr_sort f (ExprKind.Paren x) = refl
-expr_sort f (ExprKind.PrivateName x) = refl
-expr_sort f (ExprKind.OptChain x) = refl
-expr_sort f (ExprKind.Invalid x) = refl
-expr_sort f (ExprKind.Lit (Lit.Str x)) = refl
-expr_sort f (ExprKind.Lit (Lit.Bool x)) = refl
-expr_sort f (ExprKind.Lit (Lit.Null x)) = refl
-expr_sort f (ExprKind.Lit (Lit.Num x)) = refl
-expr_sort f (ExprKind.Lit (Lit.BigInt x)) = refl
-expr_sort f (ExprKind.Lit (Lit.Regex x)) = refl
-
-pub stmt_sort : {T : Type 0} (f : T → Tree) (k : StmtKindOf T) → sort_of (view_stmt_kind f k) ≡ statement
-stmt_sort f (StmtKind.Block x) = refl
-stmt_sort f (StmtKind.Empty x) = refl
-stmt_sort f (StmtKind.Debugger x) = refl
-stmt_sort f (StmtKind.With x) = refl
-stmt_sort f (StmtKind.Return x) = refl
-stmt_sort f (StmtKind.Labeled x) = refl
-stmt_sort f (StmtKind.Break x) = refl
-stmt_sort f (StmtKind.Continue x) = refl
-stmt_sort f (StmtKind.If x) = refl
-stmt_sort f (StmtKind.Switch x) = refl
-stmt_sort f (StmtKind.Throw x) = refl
-stmt_sort f (StmtKind.Try x) = refl
-stmt_sort f (StmtKind.While x) = refl
-stmt_sort f (StmtKind.DoWhile x) = refl
-stmt_sort f (StmtKind.For x) = refl
-stmt_sort f (StmtKind.ForIn x) = refl
-stmt_sort f (StmtKind.ForOf x) = refl
-stmt_sort f (StmtKind.Expr x) = refl
-stmt_sort f (StmtKind.Decl (Decl.Class x)) = refl
-stmt_sort f (StmtKind.Decl (Decl.Fn x)) = refl
-stmt_sort f (StmtKind.Decl (Decl.Var x)) = refl
-stmt_sort f (StmtKind.Decl (Decl.Using x)) = refl
-
-pub pat_sort : {T : Type 0} (f : T → Tree) (k : PatKindOf T) → sort_of (view_pat_kind f k) ≡ pattern
-pat_sort f (PatKind.Ident x) = refl
-pat_sort f (PatKind.Array x) = refl
-pat_sort f (PatKind.Rest x) = refl
-pat_sort f (PatKind.Object x) = refl
-pat_sort f (PatKind.Assign x) = refl
-pat_sort f (PatKind.Expr x) = refl
-pat_sort f (PatKind.Invalid x) = refl
+use Rattle.tree_nodes.specs.Sorts.{Sort, expression, statement, pattern, part, sort_of, is_expression, is_statement, is_pattern, is_sorted}
 
 pub no_block : (t : Tree) → is_statement (sort_of t) ≡ false → is_block t ≡ false
 no_block (block_stmt span stmts) e = absurd (cc)

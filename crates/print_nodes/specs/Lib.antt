@@ -1,7 +1,6 @@
 pub mod Asks
 pub mod Betweens
 pub mod Chains
-pub mod Sorts
 pub mod Specifiers
 pub mod Spines
 pub mod Templates

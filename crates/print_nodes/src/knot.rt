@@ -2,7 +2,7 @@
 ghost use Rattle.std.specs.Prelude.{◌≡◌, false, true, MatchOption};
 ghost use Rattle.base_token.specs.OperatorKinds.{binary_op_kind};
 ghost use Rattle.tree_nodes.specs.Placed.{inner};
-ghost use Rattle.tree_nodes.specs.View.{unary_op_word, view_expr_kind, view_member_prop, view_number, view_pat_kind, view_stmt_kind};
+ghost use Rattle.tree_nodes.specs.View.{unary_op_word, view_member_prop, view_number};
 ghost use Rattle.tree_visit.specs.Spine.Chains.{Linked, is_link, left_part};
 ghost use Rattle.print_gaps.specs.Edges.{is_word_operator};
 ghost use Rattle.print_layout_spec.specs.Layout as layout;
@@ -12,7 +12,6 @@ ghost use Rattle.print_pieces.specs.Prints.{Prints};
 ghost use Rattle.print_nodes.specs.Asks.{is_number};
 ghost use Rattle.print_nodes.specs.Chains.{object_laid};
 ghost use Rattle.print_nodes.specs.Spines.{before_laid, left_laid, lines_laid, rights_laid, stand_below};
-ghost use Rattle.print_nodes.specs.Sorts.{expression, is_expression, is_pattern, is_statement, pattern, sort_of, statement};
 
 use crate::chains::{
     keeps_text, print_call_arguments, print_name, print_number_object, print_optional_arguments,
@@ -31,7 +30,7 @@ use print_writers::WriteJs;
 use tree_nodes::spine::there;
 use tree_nodes::{
     DeclOf, Expr, ExprKind, Lit, MemberProp, Number, OptChainBase, Part, PartKind, Pat, PatKind,
-    Program, Stmt, StmtKind, UnaryOp,
+    Program, Stmt, StmtKind, UnaryOp, law,
 };
 use tree_visit::spine::chain::{below, left_part};
 
@@ -199,6 +198,7 @@ impl Print for Stmt {
                 break;
             }
             print_consequence(branch, p, look);
+            // For the proof: `there` hands on what it is given, with the fact that it is no absent part.
             rest = there(alt.get());
             let before_word = rest.starts_with_alpha_num();
             print_else(is_block(branch.cons.get()), before_word, p, look);
@@ -263,82 +263,16 @@ impl Print for Pat {
     }
 }
 
-/// The expression that a part is.
-fn as_expr(part: &Part) -> Option<&Expr>
-    ensures { MatchOption result (is_expression (sort_of (inner part.now)) ≡ false) (λ x. inner part.now ≡ x.now) }
-{
-    match &part.sort {
-        PartKind::Expr(x) => Some(x),
-        PartKind::Stmt(x) => {
-            stmt_sort(&x.kind);
-            None
-        }
-        PartKind::Pat(x) => {
-            pat_sort(&x.kind);
-            None
-        }
-    }
-}
-
-/// The statement that a part is.
-fn as_stmt(part: &Part) -> Option<&Stmt>
-    ensures { MatchOption result (is_statement (sort_of (inner part.now)) ≡ false) (λ x. inner part.now ≡ x.now) }
-{
-    match &part.sort {
-        PartKind::Expr(x) => {
-            expr_sort(&x.kind);
-            None
-        }
-        PartKind::Stmt(x) => Some(x),
-        PartKind::Pat(x) => {
-            pat_sort(&x.kind);
-            None
-        }
-    }
-}
-
-/// The pattern that a part is.
-fn as_pat(part: &Part) -> Option<&Pat>
-    ensures { MatchOption result (is_pattern (sort_of (inner part.now)) ≡ false) (λ x. inner part.now ≡ x.now) }
-{
-    match &part.sort {
-        PartKind::Expr(x) => {
-            expr_sort(&x.kind);
-            None
-        }
-        PartKind::Stmt(x) => {
-            stmt_sort(&x.kind);
-            None
-        }
-        PartKind::Pat(x) => Some(x),
-    }
-}
-
-/// Law: each kind of expression is an expression.
-fn expr_sort(kind: &ExprKind)
-    ensures { sort_of (view_expr_kind inner kind.now) ≡ expression }
-{}
-
-/// Law: each kind of statement is a statement.
-fn stmt_sort(kind: &StmtKind)
-    ensures { sort_of (view_stmt_kind inner kind.now) ≡ statement }
-{}
-
-/// Law: each kind of pattern is a pattern.
-fn pat_sort(kind: &PatKind)
-    ensures { sort_of (view_pat_kind inner kind.now) ≡ pattern }
-{}
-
 impl PrintItem for Part {
     fn is_block(&self) -> bool {
-        match as_stmt(self) {
+        match self.as_stmt() {
             Some(x) => is_block(x),
             None => false,
         }
     }
 
     fn is_variables(&self) -> bool {
-        match as_stmt(self) {
+        match self.as_stmt() {
             Some(x) => is_variables(x),
             None => false,
         }
@@ -347,14 +281,14 @@ impl PrintItem for Part {
 
 impl PrintPart for Part {
     fn is_sequence(&self) -> bool {
-        match as_expr(self) {
+        match self.as_expr() {
             Some(x) => matches!(&x.kind, ExprKind::Seq(_)),
             None => false,
         }
     }
 
     fn is_bracketed_name(&self) -> bool {
-        match as_pat(self) {
+        match self.as_pat() {
             Some(x) => matches!(
                 &x.kind,
                 PatKind::Array(_) | PatKind::Rest(_) | PatKind::Object(_)
@@ -364,7 +298,7 @@ impl PrintPart for Part {
     }
 
     fn is_name(&self) -> bool {
-        match as_pat(self) {
+        match self.as_pat() {
             Some(x) => matches!(&x.kind, PatKind::Ident(_)),
             None => false,
         }
@@ -379,28 +313,28 @@ impl PrintPart for Part {
     }
 
     fn gap_before(&self, op: BinaryOp) -> bool {
-        match as_expr(self) {
+        match self.as_expr() {
             Some(x) => gap_before(op, x),
             None => is_word(op) && self.ends_with_alpha_num(),
         }
     }
 
     fn gap_after(&self, op: BinaryOp) -> bool {
-        match as_expr(self) {
+        match self.as_expr() {
             Some(x) => gap_after(op, x),
             None => is_word(op) && self.starts_with_alpha_num(),
         }
     }
 
     fn gap_of_unary(&self, op: UnaryOp) -> bool {
-        match as_expr(self) {
+        match self.as_expr() {
             Some(x) => gap_of_unary(op, x),
             None => is_unary_word(op) && self.starts_with_alpha_num(),
         }
     }
 
     fn as_number(&self) -> Option<&Number> {
-        match as_expr(self) {
+        match self.as_expr() {
             Some(x) => number_of(x),
             None => None,
         }
@@ -408,9 +342,9 @@ impl PrintPart for Part {
 
     fn is_hole(&self) -> bool {
         match &self.sort {
-            PartKind::Expr(x) => expr_sort(&x.kind),
-            PartKind::Stmt(x) => stmt_sort(&x.kind),
-            PartKind::Pat(x) => pat_sort(&x.kind),
+            PartKind::Expr(x) => law::is_expression(&x.kind),
+            PartKind::Stmt(x) => law::is_statement(&x.kind),
+            PartKind::Pat(x) => law::is_pattern(&x.kind),
         }
         false
     }

@@ -1,10 +1,10 @@
 -- One call of a writer, as a step of what there is to write.
-use Rattle.std.proofs.Common.{◌≡◌, ℕ, Bool, true, false, List, Option, Some, None, is_some, Result, Ok, Err, refl, sym, subst, ap, ◌∙◌, if◌then◌else◌, not}
+use Rattle.std.proofs.Common.{◌≡◌, ◌==◌, ℕ, Bool, true, false, List, Option, Some, None, is_some, option_map, Result, Ok, Err, refl, sym, subst, ap, ◌∙◌, if◌then◌else◌, not}
 use Rattle.std.specs.Result.{result_err}
 use base.Fml.{GName}
 use Rattle.base_token.specs.Counts.{count_after}
-use Rattle.print_writers.specs.Pages.{IsFront}
-use Rattle.print_writers.specs.States.{State, Does, Keeps, MayAnswer, FaultFits, has_places, is_write}
+use Rattle.print_writers.specs.Pages.{IsFront, Page, Marks, put_mark, marked, waiting_for, record_here}
+use Rattle.print_writers.specs.States.{State, Does, Keeps, KeepsAll, Puts, MayAnswer, FaultFits, has_places, is_write, mark, text}
 use Rattle.print_writers.specs.declared.fault.EmitError.{EmitError}
 use Rattle.print_writers.specs.declared.fault.EmitError.TheVariants.{Write, Memory, Node, Position}
 use Rattle.print_writers.proofs.Growing.{front_same, front_trans}
@@ -157,6 +157,25 @@ module _ {S : Type 0} (tells : S → Type 0) (state : S → State) (failed : S �
   stopped_by w (Some e) p a h = passed_stop w e a h
   stopped_by w None p a h = absurd (cc)
 
+-- Where no positions are kept, a mark does nothing.
+no_marks : (f : Marks → Marks) (p : Page) (m : Option Marks) → p.marks ≡ m → is_some m ≡ false → p ≡ record p { marks = option_map f p.marks }
+no_marks f p None e n = ap (λ (m : Option Marks). record p { marks = m }) e ∙ sym (ap (λ (m : Option Marks). record p { marks = option_map f m }) e)
+no_marks f p (Some x) e n = absurd (cc)
+
+page_unmarked : (pos : BytePos) (p : Page) → is_some p.marks ≡ false → p ≡ put_mark pos p
+unfolding put_mark marked
+page_unmarked pos p n = elim (pos.0 == 0) as (λ (b : Bool). p ≡ (if b then p else (if p.at_start then record p { marks = option_map (waiting_for (Some pos)) p.marks } else record p { marks = option_map (record_here pos) p.marks }))) [
+  | true ↦ refl
+  | false ↦ elim p.at_start as (λ (b : Bool). p ≡ (if b then record p { marks = option_map (waiting_for (Some pos)) p.marks } else record p { marks = option_map (record_here pos) p.marks })) [
+    | true ↦ no_marks (waiting_for (Some pos)) p p.marks refl n
+    | false ↦ no_marks (record_here pos) p p.marks refl n
+  ]
+]
+
+state_unmarked : (pos : BytePos) (s : State) → has_places s ≡ false → s ≡ mark pos s
+unfolding mark
+state_unmarked pos s n = ap (λ (p : Page). record s { page = p }) (page_unmarked pos s.page n)
+
 -- ---- what a function of the printer made: a call where there was no fault, and nothing behind one
 pub asks : {S : Type 0} {tells : S → Type 0} {state : S → State} {failed : S → ℕ} {loans : S → List GName} {old new : S} {f g : Option EmitError} {b : Bool} {step : State → State}
     (x : Piece) → IsUtf8Piece x → step ≡ call x → (r : Result (Unit {0}) EmitError) → is_some f ≡ not b → b ≡ true → g ≡ result_err r
@@ -170,6 +189,27 @@ asks {S} {tells} {state} {failed} {loans} {old} {new} {f} {g} x u q r n b e d k 
 pub passes : {S : Type 0} {tells : S → Type 0} {state : S → State} {failed : S → ℕ} {loans : S → List GName} {w : S} {f : Option EmitError} {b : Bool}
     (x : Piece) → IsUtf8Piece x → is_some f ≡ not b → b ≡ false → Prints {S = S} tells state failed loans (one x) w f w f
 passes {S} {tells} {state} {failed} {loans} {w} {f} x u n b = record { so = λ a h. passed_by tells state failed loans x u w f (n ∙ ap not b) a h }
+
+none_of : {A : Type 0} (f : Option A) → is_some f ≡ false → None ≡ f
+none_of None e = refl
+none_of (Some x) e = absurd (cc)
+
+-- A text was written at once, where there was no fault.
+pub put_at_once : {S : Type 0} {tells : S → Type 0} {state : S → State} {failed : S → ℕ} {loans : S → List GName} {old new : S} {f : Option EmitError} {done : Bool}
+    (x : Piece) → IsUtf8Piece x → (bytes : List ℕ) → text None bytes ≡ call x → is_some f ≡ false → done ≡ true
+    → Puts {S = S} tells state bytes old new done → KeepsAll {S = S} state failed loans old new
+    → Prints {S = S} tells state failed loans (one x) old f new f
+put_at_once {S} {tells} {state} {failed} {loans} {old} {new} {f} {done} x u bytes q n e d k =
+    asks {S = S} {tells = tells} {state = state} {failed = failed} {loans = loans} {old = old} {new = new} {f = f} {g = f} {b = true} x u q (Ok tt) n refl (sym (none_of f n))
+    (subst (λ (b : Bool). tells old → tells new × (state new ≡ (if b then text None bytes (state old) else state old))) e d) (k.0, k.1, k.2, tt)
+
+-- A mark where no positions are kept: nothing was done.
+pub unmarked : {S : Type 0} {tells : S → Type 0} {state : S → State} {failed : S → ℕ} {loans : S → List GName} {w : S} {f : Option EmitError} {b : Bool}
+    (pos : BytePos) → (b ≡ false → has_places (state w) ≡ false) → b ≡ false → Prints {S = S} tells state failed loans (one (Mark pos)) w f w f
+unmarked {S} {tells} {state} {failed} {loans} {w} {f = None} {b} pos e n =
+    asks {S = S} {tells = tells} {state = state} {failed = failed} {loans = loans} {old = w} {new = w} {f = None} {g = None} {b = true} (Mark pos) tt refl (Ok tt) refl refl refl
+    (λ t. (t, state_unmarked pos (state w) (e n))) (refl, refl, refl, tt)
+unmarked {S} {tells} {state} {failed} {loans} {w} {f = Some v} {b} pos e n = passes {S = S} {tells = tells} {state = state} {failed = failed} {loans = loans} {w = w} {f = Some v} {b = false} (Mark pos) tt refl refl
 
 pub refuses_now : {S : Type 0} {tells : S → Type 0} {state : S → State} {failed : S → ℕ} {loans : S → List GName} {w : S} {f : Option EmitError} {b : Bool}
     → is_some f ≡ not b → b ≡ true → Prints {S = S} tells state failed loans refused w f w (Some Node)

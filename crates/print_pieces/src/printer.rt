@@ -21,7 +21,21 @@ pub struct Printer<W> {
 
 impl<W: WriteJs> Printer<W> {
     /// Writes a blank.
+    #[inline(always)]
     pub fn blank(&mut self)
+        ensures { Prints W.tells W.state W.failed_writes W.loans looks.blank self.old.wr self.old.fault self.new.wr self.new.fault }
+    {
+        if self.fault.is_some() {
+            return;
+        }
+        if !self.wr.put(" ") {
+            self.blank_by_steps();
+        }
+    }
+
+    /// The same by way of the writer's steps.
+    #[inline(never)]
+    fn blank_by_steps(&mut self)
         ensures { Prints W.tells W.state W.failed_writes W.loans looks.blank self.old.wr self.old.fault self.new.wr self.new.fault }
     {
         if self.fault.is_none() {
@@ -66,16 +80,29 @@ impl<W: WriteJs> Printer<W> {
     }
 
     /// Writes a fixed text.
+    #[inline(always)]
     pub fn text(&mut self, text: Text)
         ensures { Prints W.tells W.state W.failed_writes W.loans (looks.text (bytes text)) self.old.wr self.old.fault self.new.wr self.new.fault }
     {
-        if self.fault.is_none() {
-            self.fault = self.wr.write_str(text.as_str()).err();
-        }
+        self.write(text.as_str());
     }
 
     /// Writes a text.
+    #[inline(always)]
     pub fn write(&mut self, text: &str)
+        ensures { Prints W.tells W.state W.failed_writes W.loans (looks.text text.now) self.old.wr self.old.fault self.new.wr self.new.fault }
+    {
+        if self.fault.is_some() {
+            return;
+        }
+        if !self.wr.put(text) {
+            self.write_by_steps(text);
+        }
+    }
+
+    /// The same by way of the writer's steps.
+    #[inline(never)]
+    fn write_by_steps(&mut self, text: &str)
         ensures { Prints W.tells W.state W.failed_writes W.loans (looks.text text.now) self.old.wr self.old.fault self.new.wr self.new.fault }
     {
         if self.fault.is_none() {
@@ -102,7 +129,18 @@ impl<W: WriteJs> Printer<W> {
     }
 
     /// Marks a position.
+    #[inline(always)]
     pub fn mark(&mut self, pos: BytePos)
+        ensures { Prints W.tells W.state W.failed_writes W.loans (looks.one (Mark pos)) self.old.wr self.old.fault self.new.wr self.new.fault }
+    {
+        if self.wr.needs_marks() {
+            self.mark_by_steps(pos);
+        }
+    }
+
+    /// The same by way of the writer's steps.
+    #[inline(never)]
+    fn mark_by_steps(&mut self, pos: BytePos)
         ensures { Prints W.tells W.state W.failed_writes W.loans (looks.one (Mark pos)) self.old.wr self.old.fault self.new.wr self.new.fault }
     {
         if self.fault.is_none() {

@@ -1,10 +1,10 @@
 -- What each form is read as.
-use Rattle.std.proofs.Common.{◌≡◌, ℕ, ◌/◌, ◌%◌, ◌<◌, ◌≤◌, inl, inr, Bool, true, false, cond, List, [], ◌∷◌, ◌++◌, refl, sym, ap, ◌∙◌, arith}
-use Rattle.std.specs.Prelude.{if◌then◌else◌, nat_lt, nat_le, length, ◌&&◌}
+use Rattle.std.proofs.Common.{◌≡◌, ℕ, ◌/◌, ◌%◌, ◌<◌, ◌≤◌, inl, inr, true, false, cond, List, [], ◌∷◌, ◌++◌, refl, sym, ap, ◌∙◌, arith, append-nil}
+use Rattle.std.specs.Prelude.{nat_lt, nat_le, length, ◌&&◌}
 use Rattle.std.specs.Char.{digit_value}
 use Rattle.std.specs.Char.Escape.{encode_utf16}
 use Rattle.std.specs.Str.Parse.{digits_value}
-use Rattle.std.proofs.lemmas.Bool.{lt-ltb, le-ltb, ltb-true, le-leb}
+use Rattle.std.proofs.lemmas.Bool.{lt-ltb, le-ltb, ltb-true, le-leb, cond_both}
 use Rattle.std.proofs.lemmas.Bool.Decides.{nat_tests}
 use Rattle.std.proofs.lemmas.Str.{digit_value-digit_char}
 use Rattle.lex_pieces.specs.Runs.{Each}
@@ -58,18 +58,13 @@ pub record IsDigitsOf (c : ℕ) (ds : List ℕ) : Type 0 where
   pub hex : Each is_hex ds
   pub some : nat_lt 0 (length ds) ≡ true
 
--- of a test, whatever it says
-by_test : (b : Bool) (x y : List ℕ) (P : List ℕ → Type 0) → (b ≡ true → P x) → (b ≡ false → P y) → P (if b then x else y)
-by_test true x y P f g = f refl
-by_test false x y P f g = g refl
-
 pub braced_are : (c : ℕ) → c < 0x110000 → IsDigitsOf c (braced_digits c)
 braced_are c h =
-    by_test (nat_lt c 0x1000) _ _ (IsDigitsOf c)
+    cond_both (nat_lt c 0x1000) _ _ (IsDigitsOf c)
     (λ e. record { value = three_value c (ltb-true c 0x1000 e); hex = (upper_hex 256 c, (upper_hex 16 c, (upper_hex 1 c, tt))); some = refl })
-    (λ e. by_test (nat_lt c 0x1_0000) _ _ (IsDigitsOf c)
+    (λ e. cond_both (nat_lt c 0x1_0000) _ _ (IsDigitsOf c)
     (λ f. record { value = four_value c (ltb-true c 0x1_0000 f); hex = (upper_hex 4096 c, (upper_hex 256 c, (upper_hex 16 c, (upper_hex 1 c, tt)))); some = refl })
-    (λ f. by_test (nat_lt c 0x10_0000) _ _ (IsDigitsOf c)
+    (λ f. cond_both (nat_lt c 0x10_0000) _ _ (IsDigitsOf c)
     (λ g. record {
       value = five_value c (ltb-true c 0x10_0000 g);
       hex = (upper_hex 65536 c, (upper_hex 4096 c, (upper_hex 256 c, (upper_hex 16 c, (upper_hex 1 c, tt)))));
@@ -148,25 +143,17 @@ one : (quote c : ℕ) (text m : List ℕ) → IsEscape (Code c) text m → IsQuo
 one quote c text m h = record {
   pieces = Escaped (Code c) ∷ [];
   stand = (m, (text, refl, h), refl);
-  value = sym (nil_after (encode_utf16 c));
+  value = sym (append-nil (encode_utf16 c));
   modern = refl;
 }
-  where
-    nil_after : (xs : List ℕ) → xs ++ [] ≡ xs
-    nil_after [] = refl
-    nil_after (x ∷ xs) = ap (λ (l : List ℕ). x ∷ l) (nil_after xs)
 
 pub form_stands : EachFormStands
 form_stands quote Bare c m s p = record {
   pieces = Plain c ∷ [];
   stand = (m, (refl, p refl), refl);
-  value = sym (nil_after (encode_utf16 c));
+  value = sym (append-nil (encode_utf16 c));
   modern = refl;
 }
-  where
-    nil_after : (xs : List ℕ) → xs ++ [] ≡ xs
-    nil_after [] = refl
-    nil_after (x ∷ xs) = ap (λ (l : List ℕ). x ∷ l) (nil_after xs)
 form_stands quote (Letter l) c m s p = one quote c (l ∷ m) m (letter_escape l c m s.0 s.1)
 form_stands quote Nul c m s p = one quote c (48 ∷ m) m (nul_escape c m s.0 s.1)
 form_stands quote Hex c m s p = one quote c (120 ∷ lower 16 c ∷ lower 1 c ∷ m) m (hex_escape c m s)

@@ -1,5 +1,5 @@
 -- A semicolon that waits is written before the next step.
-use Rattle.std.specs.Prelude.{Bool, true, false, if◌then◌else◌, Result, Ok, Err, codes, IsSome, is_some}
+use Rattle.std.specs.Prelude.{Bool, true, false, if◌then◌else◌, Result, Ok, Err, codes, IsSome, is_some, not}
 use Rattle.std.proofs.Common.{◌≡◌, ℕ, List, Option, None, Some, refl, sym, ap, subst, ◌∙◌}
 use Rattle.base_token.specs.declared.place.BytePos.{BytePos}
 use Rattle.base_token.specs.declared.place.Span.{Span}
@@ -47,6 +47,21 @@ commit_grows s = elim s.held as (λ (h : Option Span). let q : Page = elim h [ N
 punct_brace : (span : Option Span) (bytes : List ℕ) (s : State) → is_brace bytes ≡ true → punct span bytes s ≡ free s (put span bytes s.page)
 unfolding punct text free commit
 punct_brace span bytes s e = ap (λ (b : Bool). on_page (put span bytes) (if b then record s { held = None } else s)) e
+
+-- the state of a writer over one in this state, where this semicolon waits
+outer : Option Span → State → State
+outer pending s = record { page = s.page; held = waiting pending s.held; holds = true }
+
+none_by : {A : Type 0} (o : Option A) → is_some o ≡ false → o ≡ None
+none_by None e = refl
+none_by (Some x) e = absurd (cc)
+
+outer_put : (pending : Option Span) → pending ≡ None → (bytes : List ℕ) (all : Bool) (s : State)
+    → outer pending (if all then text None bytes s else s) ≡ (if all then text None bytes (outer pending s) else outer pending s)
+unfolding outer text commit
+outer_put None e bytes true s = refl
+outer_put None e bytes false s = refl
+outer_put (Some x) e bytes all s = absurd (cc)
 
 module _ {W : Type 0} (tells : W → Type 0) (state : W → State) where
   abbrev Outer : Type 0
@@ -218,3 +233,16 @@ module _ {W : Type 0} (tells : W → Type 0) (state : W → State) where
       × FaultFits e (mark pos (omit_state state old)).page
   unfolding mark
   mark_stops pos old i e h = λ t. let q = h t.0 in ((q.0, λ some. absurd (bad_some None refl some)), q.1, q.2)
+
+  -- a text that is written at once, or not at all, where no semicolon waits here
+  pub put_free : {b : Bool} (bytes : List ℕ) (all : Bool) (old : Outer) (i : W) → is_some old.pending ≡ not b → b ≡ true
+      → (tells old.inner → tells i × (state i ≡ (if all then text None bytes (state old.inner) else state old.inner)))
+      → omit_tells tells state old → omit_tells tells state (record { inner = i; pending = old.pending })
+      × (omit_state state (record { inner = i; pending = old.pending }) ≡ (if all then text None bytes (omit_state state old) else omit_state state old))
+  unfolding outer
+  put_free {b} bytes all old i n e h = λ t.
+      let q = h t.0 in
+      let none : old.pending ≡ None = none_by old.pending (n ∙ ap not e) in (
+        (q.0, λ some. absurd (bad_some old.pending none some)),
+        ap (outer old.pending) q.1 ∙ outer_put old.pending none bytes all (state old.inner),
+      )

@@ -61,6 +61,13 @@ gets_then a b c xs ys zs f g e = λ s.
       (q.2.0, ap (λ l. told a ++ l) e ∙ sym (append_assoc (told a) xs ys) ∙ ap (λ l. l ++ ys) (sym p.1) ∙ q.2.1),
     )
 
+-- the same behind a call that took nothing
+pub gets_behind : (a b c : Option (List ℕ)) (xs : List ℕ) → Appends a b [] → Gets b c xs → Gets a c xs
+gets_behind a b c xs f g = gets_both a b c [] xs (gets a b [] f) g
+
+pub front_behind : (a b c : Option (List ℕ)) (xs : List ℕ) → Appends a b [] → GetsFront b c xs → GetsFront a c xs
+front_behind a b c xs f g = gets_then a b c [] xs xs (gets a b [] f) g refl
+
 -- and more of them behind
 pub gets_longer : (a b : Option (List ℕ)) (xs ys zs : List ℕ) → GetsFront a b xs → zs ≡ xs ++ ys → GetsFront a b zs
 gets_longer a b xs ys zs f e = λ s.

@@ -70,6 +70,14 @@ abbrev pub Does : {S A : Type 0} → (S → Type 0) → (S → State) → (State
 Does tells state f old new (Ok x) = tells old → tells new × (state new ≡ f (state old))
 Does tells state f old new (Err e) = tells old → tells new × IsLeft (state old).page (state new).page (f (state old)).page × FaultFits e (f (state old)).page
 
+-- What a call did that writes a text at once, or does nothing, and tells which.
+abbrev pub Puts : {S : Type 0} → (S → Type 0) → (S → State) → List ℕ → S → S → Bool → Type 0
+Puts tells state bytes old new done = tells old → tells new × (state new ≡ (if done then text None bytes (state old) else state old))
+
+-- what such a call keeps
+abbrev pub KeepsAll : {S : Type 0} → (S → State) → (S → ℕ) → (S → List GName) → S → S → Type 0
+KeepsAll state failed loans old new = (has_places (state new) ≡ has_places (state old)) × (loans new ≡ loans old) × (failed new ≡ failed old)
+
 -- The same for a call that makes `f` of the page.
 abbrev pub PageDoes : {S A : Type 0} → (S → Type 0) → (S → Page) → (Page → Page) → S → S → Result A EmitError → Type 0
 PageDoes tells page f old new (Ok x) = tells old → tells new × (page new ≡ f (page old))

@@ -357,6 +357,12 @@ impl<'a, W: CountedWrite> WriteJs for JsWriter<'a, W> {
         self.write(None, s)
     }
 
+    #[tactic(auto, unfolding(crate::specs::States::commit, crate::specs::States::text, crate::specs::Pages::put, crate::specs::Pages::indented, crate::specs::Pages::with_text))]
+    #[inline(always)]
+    fn put(&mut self, s: &str) -> bool {
+        !self.line_start && self.marks.is_none() && !s.is_empty() && self.wr.take_all(s.as_bytes())
+    }
+
     #[tactic(auto, unfolding(crate::specs::States::commit, crate::specs::States::text))]
     #[inline]
     fn write_symbol(&mut self, span: Span, s: &str) -> Result<(), EmitError> {

@@ -81,6 +81,11 @@ impl<W: WriteJs> WriteJs for &mut W {
         (**self).write_str(s)
     }
 
+    #[inline(always)]
+    fn put(&mut self, s: &str) -> bool {
+        (**self).put(s)
+    }
+
     #[inline]
     fn write_symbol(&mut self, span: Span, s: &str) -> Result<(), EmitError> {
         (**self).write_symbol(span, s)
@@ -104,6 +109,11 @@ impl<W: WriteJs> WriteJs for &mut W {
     #[inline]
     fn care_about_srcmap(&self) -> bool {
         (**self).care_about_srcmap()
+    }
+
+    #[inline]
+    fn needs_marks(&self) -> bool {
+        (**self).needs_marks()
     }
 
     #[inline]

@@ -144,6 +144,11 @@ impl<W: WriteJs> WriteJs for OmitTrailingSemi<W> {
         self.inner.write_str(s)
     }
 
+    #[inline(always)]
+    fn put(&mut self, s: &str) -> bool {
+        self.pending.is_none() && self.inner.put(s)
+    }
+
     fn write_symbol(&mut self, span: Span, s: &str) -> Result<(), EmitError> {
         self.settle()?;
         self.inner.write_symbol(span, s)
@@ -173,5 +178,9 @@ impl<W: WriteJs> WriteJs for OmitTrailingSemi<W> {
 
     fn care_about_srcmap(&self) -> bool {
         self.inner.care_about_srcmap()
+    }
+
+    fn needs_marks(&self) -> bool {
+        self.inner.needs_marks()
     }
 }

@@ -13,7 +13,22 @@ use std::io::ErrorKind;
 /// # Errors
 ///
 /// That of the writer.
+#[inline]
 pub fn write_all<W: CountedWrite>(writer: &mut W, bytes: &[u8]) -> Result<(), EmitError>
+    ensures written { OnOk result (Gets (W.contents writer.old) (W.contents writer.new) bytes.now) }
+    ensures beginning { OnErr result (GetsFront (W.contents writer.old) (W.contents writer.new) bytes.now) }
+    ensures failures { W.failure_count writer.new ≡ count_after (answers_write result) (W.failure_count writer.old) }
+    ensures kinds { IfErr result (λ e. is_write e ≡ true) }
+{
+    if writer.take_all(bytes) {
+        return Ok(());
+    }
+    write_parts(writer, bytes)
+}
+
+/// Writes all of the bytes in as many calls as the writer needs, or a beginning of them.
+#[inline(never)]
+fn write_parts<W: CountedWrite>(writer: &mut W, bytes: &[u8]) -> Result<(), EmitError>
     ensures written { OnOk result (Gets (W.contents writer.old) (W.contents writer.new) bytes.now) }
     ensures beginning { OnErr result (GetsFront (W.contents writer.old) (W.contents writer.new) bytes.now) }
     ensures failures { W.failure_count writer.new ≡ count_after (answers_write result) (W.failure_count writer.old) }

@@ -1,7 +1,7 @@
 //! What the printer writes to, and its writers.
 ghost use Rattle.std.specs.Prelude.{◌≡◌, ℕ, List, false, None, Some, codes};
 ghost use base.Fml.{GName};
-ghost use Rattle.print_writers.specs.States.{State, Does, Keeps, has_places, text, line, increase, decrease, semi, punct, mark, commit};
+ghost use Rattle.print_writers.specs.States.{State, Does, Keeps, KeepsAll, Puts, has_places, text, line, increase, decrease, semi, punct, mark, commit};
 
 use crate::EmitError;
 pub use crate::js_writer::JsWriter;
@@ -93,6 +93,17 @@ pub trait WriteJs {
         ensures value { Does tells state (text None s.now) self.old self.new result }
         ensures keeps { Keeps state failed_writes loans self.old self.new result };
 
+    /// Writes a text as `write_str` does, where it isn't empty and that is no more than to hand its bytes on: within a line,
+    /// where no positions are kept, no semicolon waits, and the writer behind takes all of them at once. It tells whether
+    /// it did. Else nothing changes.
+    fn put(&mut self, s: &str) -> bool
+        ensures value { Puts tells state s.now self.old self.new result }
+        ensures keeps { KeepsAll state failed_writes loans self.old self.new }
+    {
+        let _ = s;
+        false
+    }
+
     /// Writes a name.
     fn write_symbol(&mut self, span: Span, s: &str) -> Result<(), EmitError>
         ensures value { Does tells state (text (Some span) s.now) self.old self.new result }
@@ -117,6 +128,13 @@ pub trait WriteJs {
     /// Whether positions are kept.
     fn care_about_srcmap(&self) -> bool
         ensures { result ≡ has_places (state self.now) };
+
+    /// Whether a mark changes anything or is asked for by the writer. Else `add_srcmap` need not be called.
+    fn needs_marks(&self) -> bool
+        ensures { result ≡ false → has_places (state self.now) ≡ false }
+    {
+        self.care_about_srcmap()
+    }
 
     /// Whether characters that are none may be left as they are: they may not.
     fn can_ignore_invalid_unicodes(&self) -> bool
@@ -200,6 +218,11 @@ impl<W: WriteJs> WriteJs for Box<W> {
         (**self).write_str(s)
     }
 
+    #[inline(always)]
+    fn put(&mut self, s: &str) -> bool {
+        (**self).put(s)
+    }
+
     #[inline]
     fn write_symbol(&mut self, span: Span, s: &str) -> Result<(), EmitError> {
         (**self).write_symbol(span, s)
@@ -223,6 +246,11 @@ impl<W: WriteJs> WriteJs for Box<W> {
     #[inline]
     fn care_about_srcmap(&self) -> bool {
         (**self).care_about_srcmap()
+    }
+
+    #[inline]
+    fn needs_marks(&self) -> bool {
+        (**self).needs_marks()
     }
 
     #[inline]

@@ -135,6 +135,7 @@ fn star_piece(text: &[u8], is_start: bool) -> (Piece, &[u8])
     ensures shorter { length result.1.now < length text.now }
 {
     let rest = past_stars(text);
+    // For the proof: two tests in place of one `||`, so that each way out has a lemma of its own.
     if !is_start {
         return (Piece::Star, rest);
     }

@@ -9,6 +9,7 @@ mod part;
 mod places;
 mod print;
 mod read;
+mod rename;
 mod trees;
 
 use std::env;
@@ -31,6 +32,7 @@ impl Subject for Programs {
             "tree" => trees::tell(question, answer),
             "messages" => front::tell_messages(answer),
             "place" => front::tell_place(question, answer),
+            "rename" => rename::tell(question, answer),
             _ => Err(anyhow::Error::msg("no such question")),
         }
     }

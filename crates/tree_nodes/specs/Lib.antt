@@ -9,3 +9,4 @@ pub mod Sizes
 pub mod Lending
 pub mod Questions
 pub mod Spines
+pub mod Sorts

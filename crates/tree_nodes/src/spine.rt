@@ -44,6 +44,7 @@ pub fn there(stmt: &Stmt) -> &Stmt
     ensures same { result.now ≡ stmt.now }
     ensures there { is_absent result.now ≡ false }
 {
+    // For the proof: the read shows the kind, and by it no statement is an absent part.
     let _ = &stmt.kind;
     stmt
 }
@@ -57,6 +58,7 @@ pub fn further_on<'s>(stmt: &'s Stmt, links: u32) -> &'s Stmt
     for _ in 0..links {
         if let StmtKind::If(branch) = &at.kind {
             if let Some(alt) = &branch.alt {
+                // For the proof: `there` hands on what it is given, with the fact that it is no absent part.
                 at = there(alt.get());
             }
         }

@@ -382,6 +382,7 @@ impl<T: Held> Same for CalleeOf<T> {
             (CalleeOf::Super(x), CalleeOf::Super(y)) => x.same(y),
             (CalleeOf::Import(x), CalleeOf::Import(y)) => x.same(y),
             (CalleeOf::Expr(x), CalleeOf::Expr(y)) => x.same(y),
+            // For the proof: a part is always a node; the calls bring that fact.
             (CalleeOf::Expr(x), _) => !x.part.is_node(),
             (_, CalleeOf::Expr(y)) => !y.part.is_node(),
             _ => false,
@@ -437,6 +438,7 @@ impl<T: Held> Same for BlockStmtOrExprOf<T> {
         match (self, other) {
             (BlockStmtOrExprOf::BlockStmt(x), BlockStmtOrExprOf::BlockStmt(y)) => x.same(y),
             (BlockStmtOrExprOf::Expr(x), BlockStmtOrExprOf::Expr(y)) => same_in_place(x, y),
+            // For the proof: no child is a statement here; the calls bring that fact.
             (BlockStmtOrExprOf::Expr(x), _) => is_statement(x),
             (_, BlockStmtOrExprOf::Expr(y)) => is_statement(y),
         }

@@ -37,6 +37,7 @@ impl Same for Part {
             (PartKind::Stmt(x), PartKind::Stmt(y)) => x.same(y),
             (PartKind::Pat(x), PartKind::Pat(y)) => x.same(y),
             _ => {
+                // For the proof: `show_sort` is a law of parts; the calls bring what it says.
                 show_sort(self);
                 show_sort(other);
                 false
@@ -49,11 +50,13 @@ impl Held for Part {
     ghost in_stmt = { is_in_stmt };
 
     fn is_stmt(&self) -> bool {
+        // For the proof: `show_sort` is a law of parts; the call brings what it says.
         show_sort(self);
         matches!(&self.sort, PartKind::Stmt(_))
     }
 
     fn is_node(&self) -> bool {
+        // For the proof: `show_sort` is a law of parts; the call brings what it says.
         show_sort(self);
         true
     }
@@ -86,6 +89,7 @@ fn show_expr(expr: &Expr)
     ensures pattern { is_pattern expr.now ≡ false }
     ensures node { is_node expr.now ≡ true }
 {
+    // For the proof: the read shows the kind, and by it the sort.
     let _ = &expr.kind;
 }
 
@@ -95,6 +99,7 @@ fn show_stmt(stmt: &Stmt)
     ensures pattern { is_pattern stmt.now ≡ false }
     ensures node { is_node stmt.now ≡ true }
 {
+    // For the proof: the read shows the kind, and by it the sort.
     let _ = &stmt.kind;
 }
 
@@ -104,6 +109,7 @@ fn show_pat(pat: &Pat)
     ensures pattern { is_pattern pat.now ≡ true }
     ensures node { is_node pat.now ≡ true }
 {
+    // For the proof: the read shows the kind, and by it the sort.
     let _ = &pat.kind;
 }
 
@@ -122,6 +128,7 @@ fn expr_is_use_strict(expr: &Expr) -> bool
 fn stmt_is_use_strict(stmt: &Stmt) -> bool
     ensures { result ≡ is_use_strict stmt.now }
 {
+    // For the proof: the read shows the kind, and by it no statement is a string.
     let _ = &stmt.kind;
     false
 }
@@ -131,6 +138,7 @@ fn stmt_is_use_strict(stmt: &Stmt) -> bool
 fn pat_is_use_strict(pat: &Pat) -> bool
     ensures { result ≡ is_use_strict pat.now }
 {
+    // For the proof: the read shows the kind, and by it no pattern is a string.
     let _ = &pat.kind;
     false
 }
@@ -215,6 +223,7 @@ impl Same for Stmt {
                     stmt = alt.get();
                     other_stmt = other_alt.get();
                 }
+                // For the proof: what is there is never left out; the calls bring that fact.
                 (Some(alt), None) => return alt.is_left_out(),
                 (None, Some(other_alt)) => return other_alt.is_left_out(),
                 (None, None) => return true,

@@ -58,6 +58,7 @@ impl<T: Held, K> Same for Child<T, K> {
 impl<T: Held, K> Present for Child<T, K> {
     #[tactic(auto, using(crate::proofs::Mixed::node_is_there))]
     fn is_left_out(&self) -> bool {
+        // For the proof: a part is always a node; the call brings that fact.
         !self.part.is_node()
     }
 }
@@ -83,6 +84,7 @@ impl<T: Present> Same for Option<T> {
     fn same(&self, other: &Option<T>) -> bool {
         match (self, other) {
             (Some(x), Some(y)) => x.same(y),
+            // For the proof: what is there is never left out; the calls bring that fact.
             (Some(x), None) => x.is_left_out(),
             (None, Some(y)) => y.is_left_out(),
             (None, None) => true,
@@ -122,6 +124,7 @@ fn same_element<T: Present>(item: &Option<T>, other: &Option<T>) -> bool
 {
     match (item, other) {
         (Some(x), Some(y)) => x.same(y),
+        // For the proof: what is there is never left out; the calls bring that fact.
         (Some(x), None) => x.is_left_out(),
         (None, Some(y)) => y.is_left_out(),
         (None, None) => true,
@@ -168,6 +171,7 @@ pub(crate) fn same_in_place<T: Held, K>(child: &Child<T, K>, other: &Child<T, K>
 {
     match (child.part.is_stmt(), other.part.is_stmt()) {
         (false, false) => child.part.same(&other.part),
+        // For the proof: a part is always a node; the calls bring that fact.
         (true, false) => !other.part.is_node(),
         (false, true) => !child.part.is_node(),
         (true, true) => true,
@@ -180,6 +184,7 @@ pub(crate) fn is_statement<T: Held, K>(child: &Child<T, K>) -> bool
     ensures answer { result ≡ false }
     ensures none { is_statement (in_place T.in_stmt T.tree child.now) ≡ false }
 {
+    // For the proof: the call tells whether the child is a statement, which the lemma asks.
     let _ = child.part.is_stmt();
     false
 }
@@ -190,5 +195,6 @@ pub(crate) fn is_nothing<T: Held, K>(child: &Child<T, K>) -> bool
     ensures answer { result ≡ false }
     ensures none { is_left_out (in_place T.in_stmt T.tree child.now) ≡ false }
 {
+    // For the proof: a part is always a node; the call brings that fact.
     !child.part.is_node()
 }

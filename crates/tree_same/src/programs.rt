@@ -51,6 +51,7 @@ impl<T: Held> Same for ModuleItemOf<T> {
         match (self, other) {
             (ModuleItemOf::ModuleDecl(x), ModuleItemOf::ModuleDecl(y)) => x.same(y),
             (ModuleItemOf::Stmt(x), ModuleItemOf::Stmt(y)) => x.same(y),
+            // For the proof: a part is always a node; the calls bring that fact.
             (ModuleItemOf::Stmt(x), _) => !x.part.is_node(),
             (_, ModuleItemOf::Stmt(y)) => !y.part.is_node(),
         }
@@ -242,6 +243,7 @@ impl Same for ModuleExportName {
 
 impl Present for ModuleExportName {
     fn is_left_out(&self) -> bool {
+        // For the proof: the match shows which it is, and by it none is left out.
         match self {
             ModuleExportName::Ident(_) => false,
             ModuleExportName::Str(_) => false,

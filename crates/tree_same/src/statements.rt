@@ -251,6 +251,7 @@ impl<T: Held> Same for VarDeclOrExprOf<T> {
             (VarDeclOrExprOf::VarDecl(x), VarDeclOrExprOf::VarDecl(y)) => x.same(y),
             (VarDeclOrExprOf::UsingDecl(x), VarDeclOrExprOf::UsingDecl(y)) => x.same(y),
             (VarDeclOrExprOf::Expr(x), VarDeclOrExprOf::Expr(y)) => same_in_place(x, y),
+            // For the proof: no child is a statement here; the calls bring that fact.
             (VarDeclOrExprOf::Expr(x), _) => is_statement(x),
             (_, VarDeclOrExprOf::Expr(y)) => is_statement(y),
             _ => false,
@@ -263,6 +264,7 @@ impl<T: Held> Present for VarDeclOrExprOf<T> {
         match self {
             VarDeclOrExprOf::VarDecl(_) => false,
             VarDeclOrExprOf::UsingDecl(_) => false,
+            // For the proof: a child is never left out; the call brings that fact.
             VarDeclOrExprOf::Expr(x) => is_nothing(x),
         }
     }
@@ -277,6 +279,7 @@ impl<T: Held> Same for ForHeadOf<T> {
             (ForHeadOf::VarDecl(x), ForHeadOf::VarDecl(y)) => x.same(y),
             (ForHeadOf::UsingDecl(x), ForHeadOf::UsingDecl(y)) => x.same(y),
             (ForHeadOf::Pat(x), ForHeadOf::Pat(y)) => same_in_place(x, y),
+            // For the proof: no child is a statement here; the calls bring that fact.
             (ForHeadOf::Pat(x), _) => is_statement(x),
             (_, ForHeadOf::Pat(y)) => is_statement(y),
             _ => false,

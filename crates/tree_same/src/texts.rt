@@ -21,6 +21,7 @@ pub(crate) fn same_hashbang(text: &Option<Atom>, other: &Option<Atom>) -> bool
 {
     match (text, other) {
         (Some(x), Some(y)) => x == y,
+        // For the proof: two arms, since an arm of both says only that one of them holds.
         (Some(_), None) => false,
         (None, Some(_)) => false,
         (None, None) => true,
@@ -33,6 +34,7 @@ pub(crate) fn same_cooked(units: &Option<StrValue>, other: &Option<StrValue>) ->
 {
     match (units, other) {
         (Some(x), Some(y)) => x == y,
+        // For the proof: two arms, since an arm of both says only that one of them holds.
         (Some(_), None) => false,
         (None, Some(_)) => false,
         (None, None) => true,
@@ -79,6 +81,7 @@ pub(crate) fn same_spellings(texts: &[TplElement], others: &[TplElement]) -> boo
         let Some((y, after)) = rest.split_first() else {
             return false;
         };
+        // For the proof: two tests in place of one `||`, so that each way out has a goal of its own.
         if x.tail != y.tail {
             return false;
         }
@@ -128,6 +131,7 @@ fn same_line_ends(text: &[u8], other: &[u8]) -> bool
                 other_rest = other_after;
                 other_past_cr = other_cr;
             }
+            // For the proof: two arms, since an arm of both says only that one of them holds.
             (Some(_), None) => return false,
             (None, Some(_)) => return false,
             (None, None) => return true,

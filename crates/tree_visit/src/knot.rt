@@ -55,6 +55,7 @@ impl Walk for Stmt {
             visitor.enter(Node::Stmt(rest));
             branch.test.walk(visitor);
             branch.cons.walk(visitor);
+            // For the proof: `there` hands on what it is given, with the fact that it is no absent part.
             rest = there(alt.get());
             links += 1;
         }

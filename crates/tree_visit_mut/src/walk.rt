@@ -133,7 +133,7 @@ pub(crate) fn walk_part<T, C: Change<T>, X: WalkMut<T, C>>(part: &mut Option<X>,
     }
 }
 
-// What several structs hold: a call that is handed no type to go over costs the prover a tenth of one that is.
+// For the proof: what several structs hold, since a call that is handed no type to go over costs a tenth of one that is.
 
 /// Changes an expression that may be left out.
 #[tactic(auto, using(crate::proofs::Sorts::expr_stays))]

@@ -1,6 +1,7 @@
 -- Expressions and patterns that are derived from known tokens are read from these.
 use Rattle.std.proofs.Common.{◌≡◌, ◌⊎◌, inl, inr, ℕ, Bool, true, false, ◌&&◌, ◌||◌, ◌==◌, Option, Some, None, refl, sym, true≢false}
 use Rattle.std.specs.Prelude.{nat_le}
+use Rattle.base_proofs.proofs.Bools.{and_false}
 use Rattle.base_token.specs.declared.place.Span.{Span}
 use Rattle.base_token.specs.Kinds.{right_paren_kind, right_bracket_kind, right_brace_kind, new_kind, import_kind, target_kind, meta_kind, assign_kind}
 use Rattle.tree_spec.specs.Tree.{Tree, Trees, none, more, computed_prop_name, array_lit, object_lit, unary_expr, update_expr, bin_expr, assign_expr, member_expr, super_prop_expr, cond_expr, call_expr, new_expr, seq_expr, tpl, tpl_element, tagged_tpl, yield_expr, meta_prop_expr, await_expr, paren_expr, opt_chain_expr, opt_call, super, import, expr_or_spread, spread_element, key_value_prop, assign_prop, array_pat, rest_pat, object_pat, assign_pat, key_value_pat_prop, assign_pat_prop, list, absent}
@@ -14,7 +15,7 @@ use Rattle.again_laws.specs.Derived.Redo.{Mode, Plain, Headed, Raw, is_tagged, q
 use Rattle.again_laws.specs.Derived.Faithful.{AreElements}
 use Rattle.again_laws.specs.Derived.Every.{every, every_all}
 use Rattle.again_laws.specs.Derived.Read.{Knowledge, Read}
-use Rattle.again_laws.proofs.derived.FoundParts.{Fine, AllFine, Found, AllFound, took, word, inside, at, whole_test, whole_level, and_false, whole_new, whole_left, whole_right, whole_place, whole_item, expr, sorted, choice, commas, listed, object_untagged, untagged_quasi}
+use Rattle.again_laws.proofs.derived.FoundParts.{Fine, AllFine, Found, AllFound, took, word, inside, at, whole_test, whole_level, whole_new, whole_left, whole_right, whole_place, whole_item, expr, sorted, choice, commas, listed, object_untagged, untagged_quasi}
 
 module _ (know : Knowledge) where
   -- ---- primary expressions
@@ -79,7 +80,7 @@ module _ (know : Knowledge) where
   -- ---- members and calls
 
   pub accessed : (b : Bool) (k : Tree) → Found know k → (c : Code) (ts r : Input) → AccessedName b c (child k (λ y. Produces k y)) ts r → know.Known ts.places → Fine know Plain k r
-  accessed b k f c ts r h l = f Plain refl (whole_test know (λ t. is_word_name t || (b && is_private t)) k (λ s t w u. and_false know b) h.0) c ts r h.1 l
+  accessed b k f c ts r h l = f Plain refl (whole_test know (λ t. is_word_name t || (b && is_private t)) k (λ s t w u. and_false b) h.0) c ts r h.1 l
 
   pub dotted : (b : Bool) (k : Tree) → Found know k → (c : Code) (ts r : Input) → Dotted b c (child k (λ y. Produces k y)) ts r → know.Known ts.places → Fine know Plain k r
   dotted b k f c ts r h l = accessed b k f c h.0 r h.2 (took know c _ ts h.0 h.1 l)
@@ -90,7 +91,7 @@ module _ (know : Knowledge) where
 
   pub member_found : (s : Span) (o k : Tree) (Access : Code → Input → Input → Type 0) → Found know o → Gives k Access → (mode : Mode) (c : Code) (ts r : Input)
       → Member c s (child o (λ y. Produces o y)) (λ m n. Access c m n) ts r → know.Known ts.places → Fine know mode (member_expr s o k) r
-  member_found s o k Access f g mode c ts r h l = let y = f (object_mode mode k) (object_untagged know mode k) (whole_level know call_level o refl h.2.0) _ ts h.0 h.2.1 l in let z = g c h.0 r h.3 y.1 in ((tt, y.0, z.0), z.1)
+  member_found s o k Access f g mode c ts r h l = let y = f (object_mode mode k) (object_untagged mode k) (whole_level know call_level o refl h.2.0) _ ts h.0 h.2.1 l in let z = g c h.0 r h.3 y.1 in ((tt, y.0, z.0), z.1)
 
   pub super_found : (s t : Span) (k : Tree) (Access : Code → Input → Input → Type 0) → Gives k Access → (mode : Mode) (c : Code) (ts r : Input)
       → SuperProperty c s t (λ m n. Access c m n) ts r → know.Known ts.places → Fine know mode (super_prop_expr s (super t) k) r
@@ -131,9 +132,9 @@ module _ (know : Knowledge) where
   pub chain_member_found : (s : Span) (q : Bool) (t : Span) (o k : Tree) (Access AccessOptional : Code → Input → Input → Type 0) → Found know o → Gives k Access → Gives k AccessOptional → (mode : Mode) (c : Code) (ts r : Input)
       → ChainMember c s q t (child o (λ y. Produces o y)) (λ m n. Access c m n) (λ m n. AccessOptional c m n) ts r → know.Known ts.places → Fine know mode (opt_chain_expr s q (member_expr t o k)) r
   chain_member_found s true t o k Access AccessOptional f g j mode c ts r h l =
-      let y = f (object_mode (chain_mode true) k) (object_untagged know (chain_mode true) k) (whole_level know call_level o refl h.2.0) _ ts h.0 h.2.1 l in let z = j c h.1 r h.4 (took know c _ h.3.0 h.1 h.3.2 (took know c _ h.0 h.3.0 h.3.1 y.1)) in ((tt, (tt, y.0, z.0)), z.1)
+      let y = f (object_mode (chain_mode true) k) (object_untagged (chain_mode true) k) (whole_level know call_level o refl h.2.0) _ ts h.0 h.2.1 l in let z = j c h.1 r h.4 (took know c _ h.3.0 h.1 h.3.2 (took know c _ h.0 h.3.0 h.3.1 y.1)) in ((tt, (tt, y.0, z.0)), z.1)
   chain_member_found s false t o k Access AccessOptional f g j mode c ts r h l =
-      let y = f (object_mode (chain_mode false) k) (object_untagged know (chain_mode false) k) (whole_test know is_chain o (λ s b w u. refl) h.1) _ ts h.0 h.2 l in let z = g c h.0 r h.3 y.1 in ((tt, (tt, y.0, z.0)), z.1)
+      let y = f (object_mode (chain_mode false) k) (object_untagged (chain_mode false) k) (whole_test know is_chain o (λ s b w u. refl) h.1) _ ts h.0 h.2 l in let z = g c h.0 r h.3 y.1 in ((tt, (tt, y.0, z.0)), z.1)
 
   pub chain_call_found : (s : Span) (q : Bool) (t : Span) (f : Tree) (xs : Trees) → Found know f → AllFound know xs → Found know (opt_chain_expr s q (opt_call t f xs))
   chain_call_found s true t f xs g a mode n whole c ts r h l = let y = g Headed refl (whole_level know call_level f refl h.2.0) _ ts h.0 h.2.1 l in let z = args c xs a h.1 r h.4 (took know c _ h.3.0 h.1 h.3.2 (took know c _ h.0 h.3.0 h.3.1 y.1)) in ((tt, (tt, y.0, z.0)), z.1)
@@ -166,7 +167,7 @@ module _ (know : Knowledge) where
       let y = f Plain refl (whole_level know coalesce_level a refl h.4.0) _ ts h.0 h.4.1 l in let z = g Plain refl (whole_level know assignment_level b refl h.6.0) _ h.1 h.2 h.6.1 (took know c _ h.0 h.1 h.5 y.1) in let v = j Plain refl (whole_level know assignment_level d refl h.8.0) _ h.3 r h.8.1 (took know c _ h.2 h.3 h.7 z.1) in ((tt, y.0, z.0, v.0), v.1)
 
   pub assignment_found : (s : Span) (op : ℕ) (a b : Tree) → Found know a → Found know b → Found know (assign_expr s op a b)
-  assignment_found s op a b f g mode n whole c ts r h l = let y = f Plain refl (whole_test know (λ t. is_target op t) a (λ s t w u. and_false know (op == assign_kind)) h.3) _ ts h.0 h.4 l in let z = g Plain refl (whole_level know assignment_level b refl h.6.0) _ h.1 r h.6.1 (took know c op h.0 h.1 h.5 y.1) in ((tt, y.0, z.0), z.1)
+  assignment_found s op a b f g mode n whole c ts r h l = let y = f Plain refl (whole_test know (λ t. is_target op t) a (λ s t w u. and_false (op == assign_kind)) h.3) _ ts h.0 h.4 l in let z = g Plain refl (whole_level know assignment_level b refl h.6.0) _ h.1 r h.6.1 (took know c op h.0 h.1 h.5 y.1) in ((tt, y.0, z.0), z.1)
 
   pub sequence_found : (s : Span) (xs : Trees) → AllFound know xs → Found know (seq_expr s xs)
   sequence_found s none a mode n whole c ts r h l = absurd h

@@ -3,6 +3,7 @@ use Rattle.std.proofs.Common.{◌≡◌, ◌⊎◌, inl, inr, ℕ, ◌+◌, ◌�
 use Rattle.std.specs.Prelude.{nat_le}
 use Rattle.std.proofs.lemmas.Bool.{leb-true, eqb-true}
 use Rattle.std.proofs.lemmas.Bool.Decides.{nat_tests}
+use Rattle.base_proofs.proofs.Bools.{and_false}
 use Rattle.base_token.specs.declared.place.Span.{Span}
 use Rattle.base_token.specs.Kinds.{comma_kind, semicolon_kind, right_brace_kind, in_kind, exp_kind, nullish_coalescing_kind}
 use Rattle.tree_spec.specs.Tree.{Tree, Trees, none, more, tpl_element, absent, hole}
@@ -15,6 +16,35 @@ use Rattle.print_layout_spec.specs.Layout.{is_computed}
 use Rattle.again_laws.specs.Derived.Redo.{Mode, Plain, Headed, Pointed, Raw, is_asked, is_tagged, quasi_mode, object_mode}
 use Rattle.again_laws.specs.Derived.Every.{every, every_all}
 use Rattle.again_laws.specs.Derived.Read.{Knowledge, Read}
+
+-- ---- levels of operators, and modes
+
+pub no_left : (x y : Bool) (n : ℕ) → nat_le 1 n ≡ true → (if x then nat_le update_level 0 else (if y then ((0 == coalesce_level) || nat_le bit_or_level 0) else nat_le n 0)) ≡ true → ⊥
+no_left true y n k h = true≢false (sym h)
+no_left false true n k h = true≢false (sym h)
+no_left false false n k h = let a = leb-true 1 n k in let b = leb-true n 0 h in omega arith
+
+in_level : (k : ℕ) → (k == in_kind) ≡ true → nat_le 1 (binary_level k) ≡ true
+in_level k e = subst (λ (n : ℕ). nat_le 1 (binary_level n) ≡ true) (sym (eqb-true k in_kind e)) refl
+
+pub operator_level : (c : Code) (op : ℕ) → operates c op ≡ true → nat_le 1 (binary_level op) ≡ true
+operator_level c op h = by (op == in_kind) refl h
+  where
+    by : (b : Bool) → (op == in_kind) ≡ b → (if b then has_in c else nat_le 1 (binary_level op)) ≡ true → nat_le 1 (binary_level op) ≡ true
+    by true e h = in_level op e
+    by false e h = h
+
+pub right_some : (x y : Bool) (n : ℕ) → nat_le 1 (if x then exponent_level else (if y then bit_or_level else n + 1)) ≡ true
+right_some true y n = refl
+right_some false true n = refl
+right_some false false n = grind (arith, nat_tests)
+
+pub object_untagged : (m : Mode) (k : Tree) → is_tagged (object_mode m k) ≡ false
+object_untagged m k = by (is_asked m || is_computed k)
+  where
+    by : (b : Bool) → is_tagged (if b then Headed else Pointed) ≡ false
+    by true = refl
+    by false = refl
 
 module _ (know : Knowledge) where
   abbrev pub Fine : Mode → Tree → Input → Type 0
@@ -62,38 +92,14 @@ module _ (know : Knowledge) where
   whole_level l (tpl_element s b w u) o h = let k = leb-true 1 l o in absurd (omega arith)
   whole_level l _ o h = refl
 
-  pub and_false : (b : Bool) → (b && false) ≡ false
-  and_false true = refl
-  and_false false = refl
-
   pub whole_new : (t : Tree) → (level t ≡ new_level) ⊎ (member_level ≤ level t) → is_quasi t ≡ false
   whole_new (tpl_element s b w u) (inl e) = absurd (omega arith)
   whole_new (tpl_element s b w u) (inr e) = absurd (omega arith)
   whole_new _ h = refl
 
-  pub no_left : (x y : Bool) (n : ℕ) → nat_le 1 n ≡ true → (if x then nat_le update_level 0 else (if y then ((0 == coalesce_level) || nat_le bit_or_level 0) else nat_le n 0)) ≡ true → ⊥
-  no_left true y n k h = true≢false (sym h)
-  no_left false true n k h = true≢false (sym h)
-  no_left false false n k h = let a = leb-true 1 n k in let b = leb-true n 0 h in omega arith
-
-  pub in_level : (k : ℕ) → (k == in_kind) ≡ true → nat_le 1 (binary_level k) ≡ true
-  in_level k e = subst (λ (n : ℕ). nat_le 1 (binary_level n) ≡ true) (sym (eqb-true k in_kind e)) refl
-
-  pub operator_level : (c : Code) (op : ℕ) → operates c op ≡ true → nat_le 1 (binary_level op) ≡ true
-  operator_level c op h = by (op == in_kind) refl h
-    where
-      by : (b : Bool) → (op == in_kind) ≡ b → (if b then has_in c else nat_le 1 (binary_level op)) ≡ true → nat_le 1 (binary_level op) ≡ true
-      by true e h = in_level op e
-      by false e h = h
-
   pub whole_left : (c : Code) (op : ℕ) (t : Tree) → operates c op ≡ true → fits_left op t ≡ true → is_quasi t ≡ false
   whole_left c op (tpl_element s b w u) o h = absurd (no_left (op == exp_kind) (op == nullish_coalescing_kind) (binary_level op) (operator_level c op o) h)
   whole_left c op _ o h = refl
-
-  pub right_some : (x y : Bool) (n : ℕ) → nat_le 1 (if x then exponent_level else (if y then bit_or_level else n + 1)) ≡ true
-  right_some true y n = refl
-  right_some false true n = refl
-  right_some false false n = grind (arith, nat_tests)
 
   pub whole_right : (op : ℕ) (t : Tree) → right_level op ≤ level t → is_quasi t ≡ false
   whole_right op t h = whole_level (right_level op) t (right_some (op == exp_kind) (op == nullish_coalescing_kind) (binary_level op)) h
@@ -169,13 +175,6 @@ module _ (know : Knowledge) where
   closes c m r h l = took c right_brace_kind m r h l
 
   -- ---- modes
-
-  pub object_untagged : (m : Mode) (k : Tree) → is_tagged (object_mode m k) ≡ false
-  object_untagged m k = by (is_asked m || is_computed k)
-    where
-      by : (b : Bool) → is_tagged (if b then Headed else Pointed) ≡ false
-      by true = refl
-      by false = refl
 
   pub untagged_quasi : (mode : Mode) → is_tagged (quasi_mode mode) ≡ false → is_tagged mode ≡ false
   untagged_quasi Raw e = e

@@ -1,5 +1,6 @@
 -- The induction: what the layout of each tree says is derived again, a line a production.
-use Rattle.std.proofs.Common.{Bool, List, None, Some, false, if◌then◌else◌, refl, subst, sym, true, true≢false, ℕ, ◌==◌, ◌∙◌, ◌≡◌}
+use Rattle.std.proofs.Common.{Bool, List, false, if◌then◌else◌, refl, subst, sym, true, true≢false, ℕ, ◌==◌, ◌∙◌, ◌≡◌}
+use Rattle.std.proofs.lemmas.Option.{none-some}
 use Rattle.base_token.specs.declared.place.Span.{Span}
 use Rattle.tree_spec.specs.Tree.{Tree, Trees, absent, array_lit, array_pat, arrow_expr, assign_expr, assign_pat, assign_pat_prop, assign_prop, auto_accessor, await_expr, big_int_lit, bin_expr, binding_ident, block_stmt, bool_lit, break_stmt, call_expr, catch_clause, class, class_decl, class_expr, class_method, class_prop, computed_prop_name, cond_expr, constructor, continue_stmt, debugger_stmt, do_while_stmt, empty_stmt, es_module, export_all, export_decl, export_default_decl, export_default_expr, export_named_specifier, export_namespace_specifier, expr_or_spread, expr_pat, expr_stmt, fn_decl, fn_expr, for_in_stmt, for_of_stmt, for_stmt, function, getter_prop, ident, ident_name, if_stmt, import, import_decl, import_default_specifier, import_named_specifier, import_star_as_specifier, key_value_pat_prop, key_value_prop, labeled_stmt, list, member_expr, meta_prop_expr, method_prop, more, named_export, new_expr, none, null_lit, number_lit, object_lit, object_pat, opt_call, opt_chain_expr, param, paren_expr, plain_method, private_method, private_name, private_prop, regex_lit, rest_pat, return_stmt, script, seq_expr, setter_prop, spread_element, static_block, str_lit, super, super_prop_expr, switch_case, switch_stmt, tagged_tpl, this_expr, throw_stmt, tpl, tpl_element, try_stmt, unary_expr, update_expr, using_decl, var_decl, var_declarator, while_stmt, with_stmt, yield_expr}
 use Rattle.grammar_spec.specs.Tokens.Input.{lo, span}
@@ -38,7 +39,7 @@ use Rattle.again_laws.proofs.derived_rules.Specifiers.{default_import, export_as
 use Rattle.again_laws.proofs.derived_rules.If.{if_on}
 use Rattle.again_laws.proofs.derived_rules.Jumps.{break_on, continue_on, labelled_on, return_on, throw_on, with_on}
 use Rattle.again_laws.proofs.derived_rules.Loops.{do_while_on, for_expression, for_using, for_variables, while_on}
-use Rattle.again_laws.proofs.derived_rules.Overs.{for_in_target, for_in_using, for_in_variables, for_of_target, for_of_using, for_of_variables}
+use Rattle.again_laws.proofs.derived_rules.ForInOf.{for_in_target, for_in_using, for_in_variables, for_of_target, for_of_using, for_of_variables}
 use Rattle.again_laws.proofs.derived_rules.Switch.{CasesSound, switch_on}
 use Rattle.again_laws.proofs.derived_rules.Try.{HandlerSound, try_on}
 use Rattle.again_laws.proofs.derived_rules.Variables.{declarator_on, using_on, variables_on}
@@ -46,10 +47,7 @@ use Rattle.again_laws.proofs.derived_rules.Primary.{name_on, number_on, string_o
 use Rattle.again_laws.proofs.derived_rules.Objects.{object_on, property_on, spread_on, covered_on, getter_on, setter_on, method_on}  -- keep
 use Rattle.again_laws.proofs.derived_rules.Patterns.{binding_on, array_pattern_on, object_pattern_on, rest_on, initialised_on, named_item_on, target_on, keyed_item_on}  -- keep
 use Rattle.again_laws.proofs.derived_rules.Simple.{expression_on, block_on, empty_on, debugger_on}  -- keep
-use Rattle.again_laws.proofs.derived_rules.Defaults.{export_on, default_on, default_expression_on}  -- keep
-
-none_span : (s : Span) → None ≡ Some s → ⊥
-none_span s e = cc
+use Rattle.again_laws.proofs.derived_rules.DefaultExports.{export_on, default_on, default_expression_on}  -- keep
 
 -- a function without a body in braces spells nothing, nor does a method of one
 no_method : (v : Bool) (A B : Type 0) → (A → ⊥) → (B → ⊥) → By v A B → ⊥
@@ -153,9 +151,9 @@ module _ (look : Look) (x : Lexicon look.style) where
     again (setter_prop s k a (block_stmt p ss)) st e = setter_on look x s k a p ss (key k) (again a Alone refl) (agains ss) st
     again (class s ds ms k) st e = tt
     again (class_decl s i (class t ds ms k)) st e = class_declaration look x s i t ds ms k (agains ms) (again k Alone refl) st
-    again (class_decl s i k) st e = λ c ts0 r0 h. absurd (none_span s h.5)
+    again (class_decl s i k) st e = λ c ts0 r0 h. absurd (none-some s h.5)
     again (class_expr s i (class t ds ms k)) st e = class_on look x s i t ds ms k (agains ms) (again k Alone refl) st
-    again (class_expr s i k) st e = λ c ts0 r0 h. absurd (none_span s h.5)
+    again (class_expr s i k) st e = λ c ts0 r0 h. absurd (none-some s h.5)
     again (constructor s k ps (block_stmt p ss)) st e = constructor_member look x s k ps p ss (agains ps) (agains ss) st
     again (class_method s k (function t ps ds (block_stmt p ss) g a) n i) st e = method_member look x s k t ps ds p ss g a n i (key k) (agains ps) (agains ss) st
     again (class_method s k (function t ps ds b g a) n i) st e = λ c ts0 r0 h. absurd (no_method (n == plain_method) _ _ (λ m. m.4) (λ m. m.7) h.4)

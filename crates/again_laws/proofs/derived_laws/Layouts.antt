@@ -6,7 +6,7 @@ use Rattle.tree_spec.specs.Tree.{Tree, Trees, none, more, script, es_module, imp
 use Rattle.print_layout_spec.specs.declared.look.Look.{Look}
 use Rattle.print_layout_spec.specs.declared.look.Stand.{Stand}
 use Rattle.print_layout_spec.specs.declared.look.Stand.TheVariants.{Alone, Operand, Body, Head, Key, Tagged}
-use Rattle.print_layout_spec.specs.Looks.{Laid, ◌·◌, formats, start, end}
+use Rattle.print_layout_spec.specs.Looks.{Laid, ◌·◌, formats, start}
 use Rattle.print_layout_spec.specs.Layout.{laid, statements, rows, separated, each, import_heads, named_items, first_namespace, template, comma, comma_line, is_named, is_no_namespace, is_head, is_computed, is_tagged as is_tagged_stand, has_arguments, number_before, point_before, optional_dot}
 use Rattle.print_layout_spec.specs.Literals.{number}
 use Rattle.again_laws.specs.Derived.Redo.{Mode, Plain, Headed, Pointed, Raw, is_tagged, is_asked, is_pointed, is_head as is_head_mode, object_mode, quasi_mode, Leaves, kept_at, redo, redos, Redone}
@@ -15,17 +15,10 @@ use Rattle.print_layout_laws.proofs.Alike.{Alike, seen, same, ◌▸◌, if_same
 use Rattle.again_laws.proofs.derived_laws.Questions
 use Rattle.again_laws.proofs.derived_laws.Literals.{Spelt, name_alike, identifier_alike, key_word_alike, hash_name_alike, string_alike, number_alike, number_at, number_before_alike, quasi_alike, big_integer_alike}
 use Rattle.again_laws.proofs.derived_laws.Parts as Parts
+use Rattle.again_laws.proofs.derived_rules.Members.{laid_member, object, is_number}
 
 key_mark : (lv : Leaves) (key : Tree) → Alike false (start (place_of (redo lv Plain key))) (start (place_of key))
 key_mark lv key = record { so = refl }
-
-abbrev pub is_number : Tree → Bool
-is_number (number_lit span value raw) = true
-is_number _ = false
-
-and_never : (b : Bool) → (b && false) ≡ false
-and_never true = refl
-and_never false = refl
 
 of_both : (b : Bool) → (b && true) ≡ false → b ≡ false
 of_both true e = e
@@ -78,15 +71,6 @@ at_tag b = record { tagged = refl; asked = refl; plain = λ e. refl }
 
 at_object : (m : Mode) (p : Tree) (b : Bool) → b ≡ false → Fits Head (object_mode m p) b
 at_object m p b n = record { tagged = untagged m p; asked = unasked m p; plain = λ e. absurd (true≢false (sym e ∙ n)) }
-
--- the object of a member, and of `?.`
-abbrev pub object : Look → Tree → Tree → Laid
-object look (number_lit at v w) k = number_before look at v w k
-object look o k = laid look Head o
-
-laid_member : (look : Look) (st : Stand) (s : Span) (o k : Tree) → laid look st (member_expr s o k) ≡ (start s · object look o k · point_before k · laid look Alone k · end s)
-laid_member look st s (number_lit at v w) k = refl
-laid_member look st s _ k = refl
 
 redo_number : (lv : Leaves) (m : Mode) (t : Tree) → is_number (redo lv m t) ≡ is_number t
 redo_number lv m (number_lit at v w) = refl

@@ -1,12 +1,12 @@
 -- What is written of a leaf that was read tells what the leaf told.
-use Rattle.std.proofs.Common.{◌≡◌, ℕ, Bool, true, false, not, ◌&&◌, ◌||◌, if◌then◌else◌, List, [], ◌∷◌, ◌++◌, Option, Some, None, refl, sym, ap, subst, ◌∙◌, true≢false, codes, bytes_eq, chars, IsUtf8, encode_utf8_all}
-use lib.Utf8.{scalar, scalars}
+use Rattle.std.proofs.Common.{◌≡◌, ℕ, Bool, true, false, not, ◌&&◌, ◌||◌, if◌then◌else◌, List, [], ◌++◌, Option, Some, None, refl, sym, ap, subst, ◌∙◌, true≢false, codes, bytes_eq, chars, IsUtf8, encode_utf8_all}
+use lib.Utf8.{scalars}
 use Rattle.std.specs.List.{list_any, list_all}
 use Rattle.std.proofs.lemmas.Str.{chars-encodes, encodes-chars, chars-nil}
 use Rattle.std.proofs.lemmas.Slice.Eq.{bytes_eq-Decides}
+use Rattle.base_proofs.proofs.Lists.{append_empty_first, append_empty_second}
 use Rattle.base_number.specs.Numbers.{SpecNumber, number_of}
 use Rattle.base_token.specs.declared.error.SyntaxError.TheVariants.{LegacyOctal, LegacyDecimal}
-use Rattle.base_token.specs.declared.error.Error.{Error}
 use Rattle.base_token.specs.declared.version.EsVersion.{EsVersion}
 use Rattle.base_token.specs.declared.place.Span.{Span}
 use Rattle.base_token.specs.Tokens.{Content, Named, Quoted, Numeral, Piece}
@@ -34,15 +34,16 @@ use Rattle.again_laws.specs.Derived.Read.{Read, ReadString, ReadNumber, ReadWord
 use Rattle.again_laws.proofs.derived.Mapped.{mapped}
 use Rattle.again_laws.specs.DerivedLaws.TextsLaws.{ReadIsFaithful}
 use Rattle.again_laws.proofs.leaf.Origins.{From, from_of}
-use Rattle.again_laws.proofs.leaf.Digits.{number_is_ascii}
+use Rattle.again_laws.proofs.leaf.NumbersAscii.{number_is_ascii}
 use Rattle.again_laws.proofs.leaf.Literals.{same_ascii}
-use Rattle.again_laws.proofs.leaf.Strict.{strict_kept}
+use Rattle.again_laws.proofs.leaf.UseStrict.{strict_kept}
 use Rattle.again_laws.proofs.leaf.Words.{chars_are}
 use Rattle.again_laws.proofs.derived_laws.Octals.{no_octal}
 use Rattle.again_laws.proofs.derived_laws.Backslashes.{backslash_bytes}
 use Rattle.again_laws.proofs.leaf.Units.{string_units}
 use Rattle.again_laws.proofs.derived_laws.Numbers.{number_plain}
 use Rattle.again_laws.proofs.derived_laws.TemplatesAgain.{Cooked}
+use Rattle.again_laws.proofs.leaf.Scalars.{are_scalars}
 
 -- ---- strings
 
@@ -120,14 +121,6 @@ string_faithful style u w r = subst (λ (o : Option (List ℕ)). FaithfulString 
 
 -- ---- numbers
 
-first_empty : (xs ys : List Error) → xs ++ ys ≡ [] → xs ≡ []
-first_empty [] ys e = refl
-first_empty (x ∷ xs) ys e = cc
-
-second_empty : (xs ys : List Error) → xs ++ ys ≡ [] → ys ≡ []
-second_empty [] ys e = e
-second_empty (x ∷ xs) ys e = cc
-
 none_faulty : (b : Bool) (k : _) (r : Span) → fault b k r ≡ [] → b ≡ false
 none_faulty true k r e = absurd (never e)
   where
@@ -141,7 +134,7 @@ neither true false e f = f
 neither false b e f = refl
 
 no_legacy : (own : List ℕ) (r : Span) → legacy_number (Some own) r ≡ [] → is_legacy own ≡ false
-no_legacy own r e = neither (is_legacy own) (all_octal own) (none_faulty _ LegacyOctal r (first_empty _ _ e)) (none_faulty _ LegacyDecimal r (second_empty _ _ e))
+no_legacy own r e = neither (is_legacy own) (all_octal own) (none_faulty _ LegacyOctal r (append_empty_first _ _ e)) (none_faulty _ LegacyDecimal r (append_empty_second _ _ e))
 
 legacy_none : (own : List ℕ) (q : Span) → is_legacy own ≡ false → legacy_number (Some own) q ≡ []
 legacy_none own q e = ap (λ (b : Bool). fault (b && all_octal own) LegacyOctal q ++ fault (b && not (all_octal own)) LegacyDecimal q) e
@@ -163,20 +156,12 @@ number_faithful style before v w r = subst (λ (o : Option (List ℕ)). Faithful
 
 -- ---- words
 
-name_scalars : (first : Bool) (cs : List ℕ) → AreNameChars first cs → scalars cs ≡ true
-name_scalars first [] h = refl
-name_scalars first (c ∷ cs) h = both (scalar c) (scalars cs) h.0 (name_scalars false cs h.2)
-  where
-    both : (a b : Bool) → a ≡ true → b ≡ true → (a && b) ≡ true
-    both true b e f = f
-    both false b e f = absurd (true≢false (sym e))
-
 -- a word that was read: its characters are those of a name
 pub record WordText (name : List ℕ) : Type 0 where
   pub names : AreNameChars true (chars name)
 
 word_from : (x : Content) → From x → (n : List ℕ) → text_in x ≡ n → WordText n
-word_from (Named m) f n e = subst (λ (l : List ℕ). WordText l) e (record { names = subst (λ (l : List ℕ). AreNameChars true l) (sym (ap chars f.origin.2 ∙ chars-encodes f.origin.0 (name_scalars true f.origin.0 names))) names })
+word_from (Named m) f n e = subst (λ (l : List ℕ). WordText l) e (record { names = subst (λ (l : List ℕ). AreNameChars true l) (sym (ap chars f.origin.2 ∙ chars-encodes f.origin.0 (are_scalars true f.origin.0 names))) names })
   where
     names : AreNameChars true f.origin.0
     names = chars_are true f.from f.origin.0 f.behind f.are_scalars f.origin.1.1

@@ -1,5 +1,5 @@
 -- A number that is no legacy form (B.1.1) is written as none.
-use Rattle.std.proofs.Common.{◌≡◌, ℕ, zero, suc, ◌+◌, ◌-◌, ⊎_elim, Bool, true, false, not, ◌&&◌, ◌||◌, ◌==◌, if◌then◌else◌, List, [], ◌∷◌, ◌++◌, length, Option, Some, None, refl, sym, ap, subst, ◌∙◌, true≢false, take, drop}
+use Rattle.std.proofs.Common.{◌≡◌, ℕ, zero, suc, ◌+◌, ◌-◌, ⊎_elim, Bool, true, false, ◌&&◌, ◌||◌, ◌==◌, if◌then◌else◌, List, [], ◌∷◌, ◌++◌, length, Option, Some, None, refl, sym, ap, subst, ◌∙◌, true≢false, take, drop}
 use Rattle.std.specs.Prelude.{nat_lt, nat_le, unwrap_or, ℤ, pos, negsuc}
 use Rattle.std.proofs.lemmas.Bool.{cases_Bool, eqb-true}
 use Rattle.base_number.specs.Numbers.{SpecNumber, Scaled, InRadix, number_of, prefix_radix, spells_mantissa, spells_exponent, plain, before, after, trim_front, numeral, IsCanonical}
@@ -8,8 +8,9 @@ use Rattle.print_spelling.specs.declared.style.Style.{Style}
 use Rattle.print_spelling.specs.Styles.{is_below_es2021, is_up_to_es5}
 use Rattle.lex_literal.specs.Standing.{takes_point}
 use Rattle.print_spelling.specs.Number.Numbers.{minified, scaled_text, large_text, small_text, zeros, letter, is_prefixed, whole_digits, whole_text, separated, formatted, is_new_prefix, before_member, HasPrefix}
+use Rattle.print_spelling.proofs.number.PlainLemmas.{plain_here}
 use Rattle.print_layout_spec.specs.Literals.{number_bytes}
-use Rattle.again_laws.proofs.leaf.Canonical.{number_is_canonical}
+use Rattle.again_laws.proofs.leaf.CanonicalNumbers.{number_is_canonical}
 
 -- ---- numbers whose first digit is not 0, and whose radix has a prefix
 
@@ -134,21 +135,18 @@ bar_second cs v e = nothing_if _ _ v (bad (after 46 (before 101 cs))) e
     bad None = refl
     bad (Some f) = refl
 
-kept : (c : ℕ) (cs : List ℕ) → (c == 95) ≡ false → plain (c ∷ cs) ≡ c ∷ plain cs
-kept c cs e = ap (λ (z : Bool). if not z then c ∷ plain cs else plain cs) e
-
 second_digit : (ds : List ℕ) (v : SpecNumber) → number_of (48 ∷ ds) ≡ Some v → begins_digit ds ≡ false → begins_digit (plain ds) ≡ false
 second_digit [] v n e = refl
 second_digit (d ∷ ds) v n e = ⊎_elim
     (λ (t : (d == 95) ≡ true). absurd (bar_second ds v (subst (λ (k : ℕ). number_of (48 ∷ k ∷ ds) ≡ Some v) (eqb-true d 95 t) n)))
-    (λ (f : (d == 95) ≡ false). ap begins_digit (kept d ds f) ∙ e)
+    (λ (f : (d == 95) ≡ false). ap begins_digit (plain_here d ds f) ∙ e)
     (cases_Bool (d == 95))
 
 plain_is_plain : (own : List ℕ) (v : SpecNumber) → number_of own ≡ Some v → is_legacy own ≡ false → is_legacy (plain own) ≡ false
 plain_is_plain [] v n e = refl
 plain_is_plain (c ∷ cs) v n e = ⊎_elim
     (λ (t : (c == 95) ≡ true). absurd (bar_first cs v (subst (λ (k : ℕ). number_of (k ∷ cs) ≡ Some v) (eqb-true c 95 t) n)))
-    (λ (f : (c == 95) ≡ false). ap is_legacy (kept c cs f) ∙ by)
+    (λ (f : (c == 95) ≡ false). ap is_legacy (plain_here c cs f) ∙ by)
     (cases_Bool (c == 95))
   where
     by : is_legacy (c ∷ plain cs) ≡ false

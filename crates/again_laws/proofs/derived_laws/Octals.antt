@@ -5,6 +5,7 @@ use Rattle.std.specs.List.{list_any}
 use Rattle.std.proofs.lemmas.Bool.{cases_lt, eqb-true}
 use Rattle.std.proofs.lemmas.Bool.Decides.{nat_tests}
 use Rattle.std.proofs.lemmas.Str.{encode_ascii}
+use Rattle.base_proofs.proofs.Bools.{or_first}
 use Rattle.lex_pieces.specs.Runs.{Each}
 use Rattle.lex_pieces.specs.Characters.{is_line_terminator}
 use Rattle.lex_literal.specs.declared.escape.Escape.{Escape}
@@ -121,10 +122,6 @@ past_hex (d ∷ ds) m h = ap (λ (b : Bool). if b then is_octal_escape (ds ++ m)
 other_escape : (c : ℕ) (m : List ℕ) → (c == 48) ≡ false → is_digit c ≡ false → is_octal_escape (c ∷ m) ≡ has_octal m
 other_escape c m e f = ap (λ (b : Bool). if b then (begins_digit m || has_octal m) else (is_digit c || has_octal m)) e ∙ ap (λ (b : Bool). b || has_octal m) f
 
-first_other : (a b : Bool) → (a || b) ≡ false → a ≡ false
-first_other true b e = e
-first_other false b e = refl
-
 no_digit : (m : List ℕ) → begins is_decimal m ≡ false → begins_digit m ≡ false
 no_digit [] h = refl
 no_digit (c ∷ cs) h = early_digit c h
@@ -132,7 +129,7 @@ no_digit (c ∷ cs) h = early_digit c h
 escape_octals : (e : Escape) (t m : List ℕ) → IsEscape e t m → is_legacy e ≡ false → is_octal_escape t ≡ has_octal m
 escape_octals Continuation t m (inl a) l = ap is_octal_escape a
 escape_octals Continuation t m (inr a) l = ap is_octal_escape a.1 ∙ other_escape a.0 m (apart is_line_terminator 48 a.0 refl a.2) (line_digit a.0 a.2)
-escape_octals (Code n) t m (inl a) l = ap is_octal_escape a.1 ∙ other_escape a.0 m (fails is_special 48 a.0 refl a.2) (early_digit a.0 (first_other _ _ a.2))
+escape_octals (Code n) t m (inl a) l = ap is_octal_escape a.1 ∙ other_escape a.0 m (fails is_special 48 a.0 refl a.2) (early_digit a.0 (or_first _ _ a.2))
 escape_octals (Code n) t m (inr (inl a)) l = ap is_octal_escape a.0 ∙ ap (λ (b : Bool). b || has_octal m) (no_digit m a.1)
 escape_octals (Code n) t m (inr (inr (inl a))) l = ap is_octal_escape a.2 ∙ past_hex (a.0 ∷ a.1 ∷ []) m a.3
 escape_octals (Code n) t m (inr (inr (inr (inl a)))) l = ap is_octal_escape a.4 ∙ past_hex (a.0 ∷ a.1 ∷ a.2 ∷ a.3 ∷ []) m a.5
@@ -152,7 +149,7 @@ pieces_octals quote [] text r h l = ap has_octal h
 pieces_octals quote (Plain c ∷ ps) text r h l =
     ap has_octal h.1.0 ∙ (ap (λ (b : Bool). if b then is_octal_escape h.0 else has_octal h.0) (plain_char quote c h.1.1) ∙ pieces_octals quote ps h.0 r h.2 l)
 pieces_octals quote (Escaped e ∷ ps) text r h l =
-    ap has_octal h.1.1 ∙ (escape_octals e h.1.0 h.0 h.1.2 (first_other _ _ l) ∙ pieces_octals quote ps h.0 r h.2 (rest_other _ _ l))
+    ap has_octal h.1.1 ∙ (escape_octals e h.1.0 h.0 h.1.2 (or_first _ _ l) ∙ pieces_octals quote ps h.0 r h.2 (rest_other _ _ l))
   where
     rest_other : (a b : Bool) → (a || b) ≡ false → b ≡ false
     rest_other true b e = absurd (true≢false e)

@@ -12,6 +12,7 @@ use Rattle.tree_spec.specs.Places.{no_place}
 use Rattle.again_laws.specs.Derived.Redo.{Mode, Plain, Leaves, redo, redos}
 use Rattle.print_layout_laws.proofs.Alike.{Alike, same, ◌▸◌, if_same, if_alike, when_same, when_alike, start_alike, end_alike, last_alike}
 use Rattle.again_laws.proofs.derived_laws.Questions
+use Rattle.again_laws.proofs.derived_rules.Shapes.{re_is_variables}
 
 module _ (lv : Leaves) (look : Look) where
   gap_or_alike : (b c : Bool) → b ≡ c → Alike false (gap_or look b) (gap_or look c)
@@ -50,7 +51,7 @@ module _ (lv : Leaves) (look : Look) where
 
   pub closing_alike : (m : Mode) (t : Tree) → Alike false (closing look (redo lv m t)) (closing look t)
   unfolding closing
-  closing_alike m t = when_alike _ _ (ap (λ b. not b) (Questions.same_is_block lv _ t)) (when_alike _ _ (Questions.same_is_variables lv _ t) same ▸ same)
+  closing_alike m t = when_alike _ _ (ap (λ b. not b) (Questions.same_is_block lv _ t)) (when_alike _ _ (re_is_variables lv _ t) same ▸ same)
 
   pub attributes_alike : {f g : Laid} (m : Mode) (t : Tree) → Alike false f g → Alike false (attributes look (redo lv m t) f) (attributes look t g)
   attributes_alike m t x = there_alike _ t (same ▸ same ▸ same ▸ x)
@@ -87,7 +88,7 @@ module _ (lv : Leaves) (look : Look) where
 
   -- behind an exported declaration
   pub exported_alike : (m : Mode) (span : Span) (decl : Tree) → Alike false (when (is_variables (redo lv m decl)) (semi · end no_place)) (when (is_variables decl) (semi · end span))
-  exported_alike m span decl = when_alike _ _ (Questions.same_is_variables lv _ decl) (same ▸ end_alike span)
+  exported_alike m span decl = when_alike _ _ (re_is_variables lv _ decl) (same ▸ end_alike span)
 
   pub as_expression_alike : (s : Stand) (span : Span) → Alike false (as_expression s no_place) (as_expression s span)
   as_expression_alike s span = when_same _ (start_alike span)

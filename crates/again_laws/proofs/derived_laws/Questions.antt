@@ -1,14 +1,12 @@
 -- What a layout asks of a tree it asks alike of the tree given anew.
-use Rattle.std.proofs.Common.{◌≡◌, ℕ, ◌+◌, Bool, true, false, not, ◌&&◌, ◌||◌, ◌==◌, if◌then◌else◌, Option, Some, None, is_some, refl, ap, ap₂, ◌∙◌}
+use Rattle.std.proofs.Common.{◌≡◌, ℕ, ◌+◌, true, false, not, ◌&&◌, ◌||◌, ◌==◌, Option, Some, None, is_some, refl, ap, ap₂, ◌∙◌}
+use Rattle.base_proofs.proofs.Bools.{if_same}
 use Rattle.base_token.specs.declared.place.Span.{Span}
 use Rattle.base_token.specs.Kinds.{bang_kind}
 use Rattle.tree_spec.specs.Tree.{Tree, Trees, none, more, absent, hole, list, seq_expr, block_stmt, var_decl, using_decl, str_lit, computed_prop_name, array_pat, object_pat, rest_pat, var_declarator, binding_ident, import_default_specifier, import_named_specifier, export_namespace_specifier, expr_pat, bin_expr, unary_expr, update_expr, arrow_expr, member_expr, opt_chain_expr, opt_call, call_expr, cond_expr, assign_expr, tagged_tpl, expr_or_spread, assign_pat, expr_stmt, regex_lit}
 use Rattle.print_gaps.specs.Edges.{is_there, starts_with_word, first_starts_with_word, alone_starts_with_word, ends_with_word, last_ends_with_word, first_operand, is_plus, is_minus, is_decrement, is_postfix_decrement, is_not_of_decrement, starts_with_regexp, first_starts_with_regexp, gap_before, gap_after, gap_of_unary}
-use Rattle.print_layout_spec.specs.Layout.{is_empty, count, ends_with_hole, is_block, is_sequence, is_variables, is_bracketed_key, is_computed, is_bracketed_name, starts_bracketed, is_one_name, has_arguments, is_default, starts_with_default, is_named, has_named, has_default, is_namespace, is_no_namespace, has_namespace, has_other}
+use Rattle.print_layout_spec.specs.Layout.{is_empty, count, ends_with_hole, is_block, is_sequence, is_bracketed_key, is_computed, is_bracketed_name, starts_bracketed, is_one_name, has_arguments, is_default, starts_with_default, is_named, has_named, has_default, is_namespace, is_no_namespace, has_namespace, has_other}
 use Rattle.again_laws.specs.Derived.Redo.{Mode, Plain, placed, Leaves, redo, redos}
-
-one_of : {b c x y u v : Bool} → b ≡ c → x ≡ u → y ≡ v → (if b then x else y) ≡ (if c then u else v)
-one_of e h k = rw (e, h, k) refl
 
 module _ (lv : Leaves) where
   pub same_is_there : (m : Mode) (t : Tree) → is_there (redo lv m t) ≡ is_there t
@@ -22,11 +20,6 @@ module _ (lv : Leaves) where
   pub same_is_sequence : (m : Mode) (t : Tree) → is_sequence (redo lv m t) ≡ is_sequence t
   same_is_sequence md (seq_expr span exprs) = refl
   same_is_sequence md _ = refl
-
-  pub same_is_variables : (m : Mode) (t : Tree) → is_variables (redo lv m t) ≡ is_variables t
-  same_is_variables md (var_decl span kind decls) = refl
-  same_is_variables md (using_decl span is_await decls) = refl
-  same_is_variables md _ = refl
 
   pub same_is_bracketed_key : (m : Mode) (t : Tree) → is_bracketed_key (redo lv m t) ≡ is_bracketed_key t
   same_is_bracketed_key md (str_lit span units raw) = refl
@@ -154,7 +147,7 @@ module _ (lv : Leaves) where
     same_ends_with_word md (expr_pat e) = same_ends_with_word _ e
     same_ends_with_word md (var_decl span kind decls) = same_last_ends_with_word decls
     same_ends_with_word md (using_decl span is_await decls) = same_last_ends_with_word decls
-    same_ends_with_word md (var_declarator span name init) = one_of (same_is_there _ init) (same_ends_with_word _ init) (same_ends_with_word _ name)
+    same_ends_with_word md (var_declarator span name init) = if_same (same_is_there _ init) (same_ends_with_word _ init) (same_ends_with_word _ name)
     same_ends_with_word md _ = refl
 
     same_last_ends_with_word : (ts : Trees) → last_ends_with_word (redos lv Plain ts) ≡ last_ends_with_word ts

@@ -1,26 +1,16 @@
 -- The characters of templates that are written again.
-use Rattle.std.proofs.Common.{◌≡◌, ℕ, Bool, true, false, List, [], ◌∷◌, refl, ap, ◌∙◌, chars, IsUtf8, encode_utf8_all, Some, arith}
-use lib.Utf8.{scalar, scalars}
-use Rattle.std.proofs.lemmas.Bool.{false≢true, and_parts}
-use Rattle.std.proofs.lemmas.Bool.Decides.{nat_tests}
+use Rattle.std.proofs.Common.{◌≡◌, ℕ, Bool, true, false, List, [], refl, ap, ◌∙◌, chars, IsUtf8, encode_utf8_all, Some}
+use Rattle.std.proofs.lemmas.Bool.{false≢true}
 use Rattle.std.proofs.lemmas.Str.{chars-encodes, scalars-chars}
-use Rattle.lex_pieces.specs.Runs.{Each}
 use Rattle.base_token.specs.declared.version.EsVersion.{EsVersion}
 use Rattle.lex_literal.specs.Templates.{SpellsPiece}
 use Rattle.lex_literal.specs.declared.template.Ending.{Ending}
-use Rattle.print_spelling.specs.Template.Laws.{is_code_point}
 use Rattle.print_spelling.specs.Template.Templates.{template_text}
 use Rattle.print_spelling.proofs.template.AgainLemmas.{template_again, written_again}
 use Rattle.print_layout_spec.specs.Literals.{quasi_bytes}
 use Rattle.again_laws.proofs.leaf.Pieces.{template_scalars}
 use Rattle.again_laws.proofs.derived_laws.TextsAgain.{at}
-
-code_point : (c : ℕ) → scalar c ≡ true → is_code_point c ≡ true
-code_point c s = grind (arith, nat_tests)
-
-code_points : (cs : List ℕ) → scalars cs ≡ true → Each is_code_point cs
-code_points [] s = tt
-code_points (c ∷ cs) s = let h = and_parts (scalar c) (scalars cs) s in (code_point c h.0, code_points cs h.1)
+use Rattle.again_laws.proofs.leaf.Literals.{code_points_of}
 
 -- The raw text of a piece of an untagged template, as it was read.
 pub record Cooked (raw : List ℕ) : Type 0 where
@@ -41,4 +31,4 @@ module _ (t : EsVersion) (i : Bool) where
   quasis_again true true o false w h k =
       let x = k refl in
       ap (λ x. encode_utf8_all (template_text (at t i true) x [])) (chars-encodes (template_text (at t i true) (chars w) []) (template_scalars (at t i true) (chars w) (scalars-chars w h)))
-      ∙ ap (λ x. encode_utf8_all x) (written_again (at t i true) (chars w) x.units x.before x.behind [] x.ending x.spells (code_points (chars w) (scalars-chars w h)))
+      ∙ ap (λ x. encode_utf8_all x) (written_again (at t i true) (chars w) x.units x.before x.behind [] x.ending x.spells (code_points_of (chars w) (scalars-chars w h)))

@@ -3,15 +3,15 @@
 use Rattle.std.proofs.Common.{◌≡◌, ℕ, ⊎_elim, Bool, true, false, not, ◌&&◌, ◌||◌, ◌==◌, List, [], ◌∷◌, ◌++◌, Some, None, refl, sym, ap, ◌∙◌, codes, bytes_eq, chars, IsUtf8, encode_utf8_all, nat_lt, if◌then◌else◌}
 use lib.Utf8.{scalars}
 use Rattle.std.specs.Prelude.{unwrap_or}
-use Rattle.std.specs.List.{list_all, list_any}
+use Rattle.std.specs.List.{list_any}
 use Rattle.std.proofs.lemmas.Bool.{cases_Bool, false≢true}
 use Rattle.std.proofs.Math.Bool.{or-true}
 use Rattle.std.proofs.lemmas.List.Elements.{filter-append}
 use Rattle.std.proofs.lemmas.Str.{encodes-chars, chars-encodes, scalars-chars}
-use Rattle.base_number.specs.Numbers.{SpecNumber, plain, prefix_radix, is_legacy_octal}
+use Rattle.base_number.specs.Numbers.{SpecNumber, plain, prefix_radix}
 use Rattle.base_token.specs.Editions.{edition_rank}
 use Rattle.base_token.specs.declared.version.EsVersion.{EsVersion}
-use Rattle.lex_literal.specs.Standing.{takes_point, is_digit_or_separator}
+use Rattle.lex_literal.specs.Standing.{takes_point}
 use Rattle.print_spelling.specs.declared.style.Style.{Style}
 use Rattle.print_spelling.specs.Styles.{is_below_es2021}
 use Rattle.print_spelling.specs.String.CodePoints.{AreUnits}
@@ -20,6 +20,7 @@ use Rattle.print_spelling.proofs.string.RawLemmas.{formatted_again}
 use Rattle.print_spelling.specs.Number.Numbers.{formatted, before_member, separated, whole_text, is_new_prefix}
 use Rattle.print_spelling.proofs.number.AgainLemmas.{separated_twice}
 use Rattle.print_spelling.proofs.number.PlainLemmas.{plain_twice}
+use Rattle.print_spelling.proofs.number.PointLemmas.{takes_no_more}
 use Rattle.again_laws.proofs.leaf.Quotes.{quoted_scalars}
 use Rattle.std.proofs.lemmas.Slice.Eq.{bytes_eq-Decides}
 use Rattle.again_laws.proofs.derived_laws.Backslashes.{backslash_bytes}
@@ -92,23 +93,11 @@ module _ (t : EsVersion) (i : Bool) where
     numbers_again true false o v w = absurd (false≢true (o refl))
     numbers_again false false o v w = as_read v (formatted (at false) v (Some w)) ∙ ap (λ x. separated (at false) x) (as_read v w) ∙ separated_twice (at false) w ∙ sym (as_read v w)
 
-    -- a point behind a number, which then takes none
-    no_point : (f : List ℕ) → takes_point (f ++ 46 ∷ []) ≡ false
-    no_point f = ap (λ b. b && not (is_legacy_octal (f ++ 46 ∷ []))) (all f)
-      where
-        and_false : (b : Bool) → (b && false) ≡ false
-        and_false true = refl
-        and_false false = refl
-
-        all : (f : List ℕ) → list_all is_digit_or_separator (f ++ 46 ∷ []) ≡ false
-        all [] = refl
-        all (c ∷ cs) = ap (λ b. is_digit_or_separator c && b) (all cs) ∙ and_false (is_digit_or_separator c)
-
     member_twice : (f : List ℕ) → before_member (before_member f) ≡ before_member f
     member_twice f = ⊎_elim
         (λ (e : takes_point f ≡ true).
         let same : before_member f ≡ f ++ 46 ∷ [] = ap (λ b. if b then f ++ 46 ∷ [] else f) e in
-        ap before_member same ∙ ap (λ b. if b then (f ++ 46 ∷ []) ++ 46 ∷ [] else f ++ 46 ∷ []) (no_point f) ∙ sym same)
+        ap before_member same ∙ ap (λ b. if b then (f ++ 46 ∷ []) ++ 46 ∷ [] else f ++ 46 ∷ []) (takes_no_more f) ∙ sym same)
         (λ (e : takes_point f ≡ false). ap before_member (ap (λ b. if b then f ++ 46 ∷ [] else f) e))
         (cases_Bool (takes_point f))
 

@@ -1,6 +1,7 @@
 -- Arrows derived again, with parentheses round one parameter and without (15.3, 15.9).
 use Rattle.std.proofs.Common.{Bool, List, [], ap, ap₂, arith, codes, eqb, false, if◌then◌else◌, inl, inr, not, refl, subst, sym, true, true≢false, ℕ, ◌&&◌, ◌-◌, ◌==◌, ◌||◌, ◌∙◌, ◌∷◌, ◌≡◌, ◌≤◌, ◌⊎◌}
-use Rattle.std.proofs.lemmas.Bool.{and_parts, ne_eqb, or_parts}
+use Rattle.std.proofs.lemmas.Bool.{and_parts, ne_eqb, or_parts, eqb-false}
+use Rattle.base_proofs.proofs.Bools.{and_false}
 use Rattle.base_token.specs.Kinds.{arrow_kind, async_kind, class_kind, comma_kind, else_kind, function_kind, left_brace_kind, left_bracket_kind, left_paren_kind, let_kind, right_paren_kind}
 use Rattle.base_token.specs.declared.context.Context.{Context}
 use Rattle.base_token.specs.declared.place.Span.{Span}
@@ -78,10 +79,6 @@ bound_tight _ h = absurd (true≢false (sym h))
 abbrev starts_by : ℕ → ℕ → Bool → Bool
 starts_by k j b = not ((k == left_brace_kind) || ((k == function_kind) || ((k == class_kind) || (((k == async_kind) && ((j == function_kind) && not b)) || ((k == let_kind) && (j == left_bracket_kind))))))
 
-no_and : (a : Bool) → (a && false) ≡ false
-no_and true = refl
-no_and false = refl
-
 unreserved : (c : Code) (k n : ℕ) → no_name c.context k ≡ false → always_reserved n ≡ true → eqb k n ≡ false
 unreserved c k n h e = ne_eqb k n (λ q. true≢false (sym (ap always_reserved q ∙ e) ∙ (or_parts (always_reserved k) (operator_word c.context k) h).0))
 
@@ -89,13 +86,10 @@ word_no : (k n : ℕ) → is_word k ≡ true → is_word n ≡ false → eqb k n
 word_no k n h e = ne_eqb k n (λ q. true≢false (sym h ∙ (ap is_word q ∙ e)))
 
 named_starts : (c : Code) (k : ℕ) (b : Bool) → is_word k ≡ true → no_name c.context k ≡ false → starts_by k arrow_kind b ≡ true
-named_starts c k b w n = rw (word_no k left_brace_kind w refl, unreserved c k function_kind n refl, unreserved c k class_kind n refl, no_and (eqb k async_kind), no_and (eqb k let_kind)) refl
+named_starts c k b w n = rw (word_no k left_brace_kind w refl, unreserved c k function_kind n refl, unreserved c k class_kind n refl, and_false (eqb k async_kind), and_false (eqb k let_kind)) refl
 
 async_starts : (j : ℕ) (b : Bool) → (j ≡ function_kind → ⊥) → starts_by async_kind j b ≡ true
 async_starts j b h = rw (ne_eqb j function_kind h) refl
-
-async_no_else : async_kind ≡ else_kind → ⊥
-async_no_else e = omega arith
 
 no_block : (e : Tree) → 1 ≤ level e → is_block_tree e ≡ false
 no_block (block_stmt s ss) h = absurd (omega arith)
@@ -263,7 +257,7 @@ module _ (look : Look) (x : Lexicon look.style) where
         known = x.later h.1 r0 h.5.2 y.known;
         broke = q.1.broke;
         opened = subst (λ (k : ℕ). starts_by k (kind2 ts) (brk2 ts) ≡ true) (sym z) (async_starts (kind2 ts) (brk2 ts) (λ e. opened_no c q.0 y.m y.opened function_kind refl (λ e. omega arith) (sym (ap kind q.1.after) ∙ e)));
-        bars = λ e. async_no_else (sym z ∙ e);
+        bars = λ e. eqb-false async_kind else_kind refl (sym z ∙ e);
         again = (w.0, (q.0, y.m, (worded look x c async_kind q.1, behind_word look x async_kind refl q.1 y.broke ∙ blank_broke (formats look || is_one_name ps) Touching), w.1, before_held look x o.1 (ap is_held j) ∙ ap is_broken y.tight, took look x c arrow_kind o.1), w.2);
       }
 

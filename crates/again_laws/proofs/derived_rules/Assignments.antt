@@ -1,6 +1,7 @@
 -- Assignments derived again (13.15).
-use Rattle.std.proofs.Common.{Bool, ap₂, arith, false, nat_le, not, refl, sym, true, true≢false, ℕ, ◌&&◌, ◌==◌, ◌||◌, ◌∙◌, ◌≡◌}
+use Rattle.std.proofs.Common.{Bool, ap₂, arith, false, nat_le, not, refl, sym, true, ℕ, ◌==◌, ◌||◌, ◌∙◌, ◌≡◌}
 use Rattle.std.proofs.lemmas.Bool.{and_parts, leb-true, ne_eqb}
+use Rattle.base_proofs.proofs.Bools.{not_and_false}
 use Rattle.base_token.specs.Kinds.{assign_kind, back_quote_kind, dot_kind, else_kind, function_kind, left_bracket_kind, left_paren_kind, nullish_assign_kind, question_mark_kind}
 use Rattle.base_token.specs.declared.place.Span.{Span}
 use Rattle.tree_spec.specs.Places.{no_place}
@@ -34,10 +35,6 @@ assign_closes op h =
 assign_function : (op : ℕ) → is_assign_op op ≡ true → op ≡ function_kind → ⊥
 assign_function op h e = let p = and_parts (nat_le assign_kind op) (nat_le op nullish_assign_kind) h in let l = leb-true assign_kind op p.0 in let g = leb-true op nullish_assign_kind p.1 in omega (arith, l, g, e)
 
-and_off : (b : Bool) → (b && false) ≡ true → ⊥
-and_off true h = true≢false (sym h)
-and_off false h = true≢false (sym h)
-
 target_plain : (op : ℕ) (t : Tree) → is_target op t ≡ true → (is_part t ≡ true) × (is_weak t ≡ false)
 target_plain op (binding_ident s i) h = (refl, refl)
 target_plain op (array_pat s xs) h = (refl, refl)
@@ -45,7 +42,7 @@ target_plain op (object_pat s ps) h = (refl, refl)
 target_plain op (member_expr s o p) h = (refl, refl)
 target_plain op (super_prop_expr s o p) h = (refl, refl)
 target_plain op (paren_expr s e) h = (refl, refl)
-target_plain op _ h = absurd (and_off (op == assign_kind) h)
+target_plain op _ h = absurd (not_and_false (op == assign_kind) h)
 
 module _ (look : Look) (x : Lexicon look.style) where
   pub assign_on : (s : Span) (op : ℕ) (a b : Tree) → Sound look x.naming Alone a → Sound look x.naming Alone b → (st : Stand) → Sound look x.naming st (assign_expr s op a b)

@@ -1,9 +1,9 @@
 -- Lists of statements derived again: in braces, in a case, and of whole programs; their directives stay what they were (11.2.1).
-use Rattle.std.proofs.Common.{Bool, arith, codes, false, if◌then◌else◌, not, refl, subst, sym, true, true≢false, ◌&&◌, ◌∙◌, ◌≡◌}
-use Rattle.std.proofs.lemmas.Bool.{or_left}
+use Rattle.std.proofs.Common.{Bool, codes, false, if◌then◌else◌, not, refl, subst, sym, true, true≢false, ◌&&◌, ◌∙◌, ◌≡◌}
+use Rattle.std.proofs.lemmas.Bool.{or_left, eqb-false}
 use Rattle.base_token.specs.Kinds.{else_kind, left_brace_kind, right_brace_kind}
 use Rattle.base_token.specs.declared.place.Span.{Span}
-use Rattle.tree_spec.specs.Tree.{Tree, Trees, block_stmt, more, none}
+use Rattle.tree_spec.specs.Tree.{Tree, Trees, more, none}
 use Rattle.grammar_spec.specs.Tokens.Input.{Code, Input, Takes, in_list, kind, turned_strict, unplaced}
 use Rattle.grammar_spec.specs.Tokens.Shape.{is_directive, is_item, is_use_strict}
 use Rattle.grammar_spec.specs.Grammar.{Produces, children}
@@ -25,6 +25,7 @@ use Rattle.again_laws.proofs.derived_rules.Lists.{more_same, none_same}
 use Rattle.again_laws.proofs.derived_rules.Shapes.{alike, re_is_directive, re_is_item}
 use Rattle.again_laws.proofs.derived_rules.Sound.{AllSound, Out, Sound, outer}
 use Rattle.again_laws.proofs.derived_rules.Tokens.{marked, says_map, skip_back, skip_deeper, skip_line, took}
+use Rattle.again_laws.proofs.Layouts.{block_no_variables}
 
 pub follow_closed : (t : Tree) (r m : Input) → is_closed t ≡ true → (kind m ≡ else_kind → kind r ≡ else_kind) → Follow Alone t r m
 follow_closed t r m i f = record { quiet = λ z. absurd (by (is_closed t) _ i z); other = λ z. f }
@@ -32,10 +33,6 @@ follow_closed t r m i f = record { quiet = λ z. absurd (by (is_closed t) _ i z)
     by : (a b : Bool) → a ≡ true → not a && not b ≡ true → ⊥
     by true b i e = true≢false (sym e)
     by false b i e = true≢false (sym i)
-
-block_plain : (t : Tree) → is_block_tree t ≡ true → is_variables t ≡ false
-block_plain (block_stmt s ss) h = refl
-block_plain _ h = absurd (true≢false (sym h))
 
 -- what ends a StatementListItem is its own
 pub item_closed : (t : Tree) → is_item t ≡ true → is_closed t ≡ true
@@ -53,7 +50,7 @@ module _ (look : Look) (x : Lexicon look.style) where
 
   closing_on : (t : Tree) (b : Spacing) (ts : Input) (K : Spacing → Input → Type 0) → says x.naming (closing look t) b ts K → says x.naming (when (is_variables t) semi) b ts (λ d m. (e : Spacing) × K e m)
   unfolding closing
-  closing_on t b ts K q = by (is_block_tree t) (block_plain t) q
+  closing_on t b ts K q = by (is_block_tree t) (block_no_variables t) q
     where
       by : (v : Bool) → (v ≡ true → is_variables t ≡ false) → says x.naming (when (not v) (when (is_variables t) semi · line look)) b ts K → says x.naming (when (is_variables t) semi) b ts (λ d m. (e : Spacing) × K e m)
       by true p q = subst (λ (w : Bool). says x.naming (when w semi) b ts (λ d m. (e : Spacing) × K e m)) (sym (p refl)) (b, q)
@@ -137,9 +134,6 @@ module _ (look : Look) (x : Lexicon look.style) where
   closes_known : (c : Code) (m r : Input) → ClosesBlock c m r → Known m.places → Known r.places
   closes_known c m r h k = x.later m r h.2 k
 
-  brace_no_else : right_brace_kind ≡ else_kind → ⊥
-  brace_no_else e = omega arith
-
   pub record Braced (c : Code) (starts : Bool) (ss : Trees) (ts0 r0 : Input) (b : Spacing) (ts : Input) (K : Spacing → Input → Type 0) : Type 0 where
     pub m : Input
     pub more : K Touching m
@@ -162,7 +156,7 @@ module _ (look : Look) (x : Lexicon look.style) where
       let i = skip_line x.naming (formats look) Touching q.0 _ q.2 in
       let j = skip_deeper x.naming (formats look) i.0 q.0 _ i.1 in
       let z = rows_on is_item re_is_item item_flat ClosesBlock closes_known c starts (more s ss) a m0 r0 h (x.later ts0 m0 t.2 k) i.0 q.0 _
-      (λ d m u. let v = skip_line x.naming (formats look) d m _ (skip_back x.naming (formats look) d m _ u) in λ e. brace_no_else (sym (marked look x right_brace_kind v.1.1) ∙ e)) j in
+      (λ d m u. let v = skip_line x.naming (formats look) d m _ (skip_back x.naming (formats look) d m _ u) in λ e. eqb-false right_brace_kind else_kind refl (sym (marked look x right_brace_kind v.1.1) ∙ e)) j in
       let v = skip_line x.naming (formats look) z.d z.m _ (skip_back x.naming (formats look) z.d z.m _ z.more) in
       let o = v.1 in let w = z.again o.0 (λ n. took look x n right_brace_kind o.1) in record {
         m = o.0;

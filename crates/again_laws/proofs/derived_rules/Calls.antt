@@ -28,7 +28,7 @@ use Rattle.again_laws.proofs.derived_rules.Lists.{Gone, comma_on, listed, more_s
 use Rattle.again_laws.proofs.derived_rules.Shapes.{alike, re_is_chain, re_is_element}
 use Rattle.again_laws.proofs.derived_rules.Sound.{AllSound, Out, Sound, expr, expr_begins, expr_head, full}
 use Rattle.again_laws.proofs.derived_rules.Tokens.{keyed, marked, took, worded}
-use Rattle.again_laws.proofs.derived_rules.Heads.{at_least_new, follow_head, no_seven, over_call}
+use Rattle.again_laws.proofs.derived_rules.CallHeads.{follow_head, no_seven, over_call}
 
 pub element_plain : (t : Tree) → is_element t ≡ true → (is_part t ≡ true) × (is_module_item t ≡ false)
 element_plain (expr_or_spread s d e) h = (refl, refl)
@@ -79,7 +79,7 @@ module _ (look : Look) (x : Lexicon look.style) where
         broke = y.broke;
         tight = λ e. refl;
         begins = before ts0 h.0 ts y.m r0 o.0 (λ l. absurd (firm e (over_call (level e) h.2.0) l)) (expr_begins look x.naming Head e (assigning c) ts0 h.0 b ts _ (above call_level (level e) (omega arith) h.2.0) y) (marked look x left_paren_kind p.1 ∙ sym h.3.1.0) (λ i. no_seven (sym (marked look x left_paren_kind p.1) ∙ i));
-        again = λ g. let u = y.again (follow_head e h.0 y.m (at_least_new (level e) h.2.0) (marked look x left_paren_kind p.1)) in let w = z.again o.0 (took look x c right_paren_kind o.1) in
+        again = λ g. let u = y.again (follow_head e h.0 y.m (over_call (level e) h.2.0) (marked look x left_paren_kind p.1)) in let w = z.again o.0 (took look x c right_paren_kind o.1) in
             let v = expr_head look x.naming call_level e c ts y.m h.2.0 u in record {
               tree = call_expr (span (lo ts) o.0.last) u.tree w.0;
               produced = as_call (span (lo ts) o.0.last) u.tree w.0 (unplaced c) ts o.0 (y.m, alike is_chain re_is_chain (leaves_at look x.naming) Headed e u.tree u.same ∙ h.1, v, (p.0, took look x c left_paren_kind p.1, w.1), refl);

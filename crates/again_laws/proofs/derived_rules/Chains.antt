@@ -1,5 +1,6 @@
 -- Optional chains and private names derived again (12.7, 13.3.9).
 use Rattle.std.proofs.Common.{Bool, List, ap, ap₂, arith, false, refl, subst, sym, true, true≢false, ℕ, ◌&&◌, ◌||◌, ◌∙◌, ◌≡◌, ◌≤◌}
+use Rattle.std.proofs.lemmas.Bool.{eqb-false}
 use Rattle.base_token.specs.Kinds.{dot_kind, else_kind, function_kind, hash_kind, left_bracket_kind, left_paren_kind, question_mark_kind, right_bracket_kind}
 use Rattle.base_token.specs.declared.place.Span.{Span}
 use Rattle.lex_token.specs.declared.goal.LexicalGoal.TheVariants.{Div}
@@ -32,11 +33,8 @@ use Rattle.again_laws.proofs.derived_rules.Shapes.{alike, re_is_chain}
 use Rattle.again_laws.proofs.derived_rules.Sound.{AllSound, Out, Sound, expr, expr_begins, expr_head, expr_low, full, plain_part}
 use Rattle.again_laws.proofs.derived_rules.Tokens.{marked, took}
 use Rattle.again_laws.proofs.derived_rules.Calls.{passed_on}
-use Rattle.again_laws.proofs.derived_rules.Heads.{at_least_new, follow_chain, no_seven, over_call}
+use Rattle.again_laws.proofs.derived_rules.CallHeads.{follow_chain, no_seven, over_call}
 use Rattle.again_laws.proofs.derived_rules.Members.{Accessed, BracketsAgain, DotsAgain, bracketed_on, dotted_on, is_number, named_no_item, named_plain, named_still, named_tight, object, object_on, pointed_same, re_named}
-
-question_function : question_mark_kind ≡ function_kind → ⊥
-question_function e = omega arith
 
 question_else : question_mark_kind ≡ else_kind → ⊥
 question_else e = omega arith
@@ -100,8 +98,8 @@ module _ (look : Look) (x : Lexicon look.style) where
         known = z.known;
         broke = y.broke;
         tight = λ e. z.tight;
-        begins = before ts0 m0 ts y.m r0 z.m (λ e. e) y.begins (n ∙ sym p.1.0) (λ e. question_function (sym n ∙ e));
-        again = λ h. let w = y.again (follow_chain o m0 y.m (at_least_new (level o) e.0) (λ e. question_else (sym n ∙ e))) in let v = z.again in record {
+        begins = before ts0 m0 ts y.m r0 z.m (λ e. e) y.begins (n ∙ sym p.1.0) (λ e. eqb-false question_mark_kind function_kind refl (sym n ∙ e));
+        again = λ h. let w = y.again (follow_chain o m0 y.m (over_call (level o) e.0) (λ e. question_else (sym n ∙ e))) in let v = z.again in record {
           tree = opt_chain_expr (span (lo ts) z.m.last) true (member_expr (span (lo ts) z.m.last) w.tree v.0);
           produced = j (span (lo ts) z.m.last) w.tree v.0 ts y.m l.0 z.m (level_head look x.naming Headed o w.tree refl w.same call_level e.0, w.produced) (i.0, took look x c question_mark_kind i.1, took look x c dot_kind l.1) v.1 refl;
           directive = refl;
@@ -175,8 +173,8 @@ module _ (look : Look) (x : Lexicon look.style) where
         known = z.known;
         broke = y.broke;
         tight = λ e. refl;
-        begins = before ts0 h.0 ts y.m r0 z.m (λ l. absurd (firm e (over_call (level e) h.2.0) l)) (expr_begins look x.naming Head e (assigning c) ts0 h.0 b ts _ (above call_level (level e) (omega arith) h.2.0) y) (n ∙ sym h.3.1.0) (λ e. question_function (sym n ∙ e));
-        again = λ g. let w = y.again (follow_chain e h.0 y.m (at_least_new (level e) h.2.0) (λ e. question_else (sym n ∙ e))) in record {
+        begins = before ts0 h.0 ts y.m r0 z.m (λ l. absurd (firm e (over_call (level e) h.2.0) l)) (expr_begins look x.naming Head e (assigning c) ts0 h.0 b ts _ (above call_level (level e) (omega arith) h.2.0) y) (n ∙ sym h.3.1.0) (λ e. eqb-false question_mark_kind function_kind refl (sym n ∙ e));
+        again = λ g. let w = y.again (follow_chain e h.0 y.m (over_call (level e) h.2.0) (λ e. question_else (sym n ∙ e))) in record {
           tree = opt_chain_expr (span (lo ts) z.m.last) true (opt_call (span (lo ts) z.m.last) w.tree z.again.0);
           produced = (y.m, j.0, expr_head look x.naming call_level e c ts y.m h.2.0 w, (i.0, took look x c question_mark_kind i.1, took look x c dot_kind j.1), z.again.1, refl, refl);
           directive = refl;

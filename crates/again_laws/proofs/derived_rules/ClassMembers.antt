@@ -12,6 +12,7 @@ use Rattle.grammar_spec.specs.Tokens.Shape.{FunctionParts, constructs, count_of,
 use Rattle.grammar_spec.specs.Functions.{Initial as ClassInitial, ClassMethod, Field, Method, MethodHead, Static}
 use Rattle.grammar_spec.specs.Grammar.{Produces, children}
 use Rattle.grammar_spec.specs.Children.{By, Ends, Expr, child}
+use Rattle.grammar_laws.proofs.Covers.{by_no}
 use Rattle.print_gaps.specs.Edges.{is_there, starts_with_word}
 use Rattle.print_layout_spec.specs.Layout.{after_static, comma, field_value, function_tail, in_parens, is_sequence, laid, method_marks, separated, word}
 use Rattle.print_layout_spec.specs.Looks.{Laid, blank, formats, gap, gap_or, semi, text, when, ◌·◌}
@@ -26,7 +27,7 @@ use Rattle.again_laws.specs.Derived.Redo.{AllRedone, Leaves, Mode, Plain, Redone
 use Rattle.again_laws.specs.Derived.Written.{constructor_word, written_constructor_key, written_key}
 use Rattle.again_laws.proofs.derived_rules.Naming.{leaves_at}
 use Rattle.again_laws.proofs.derived_rules.Bodies.{braced}
-use Rattle.again_laws.proofs.derived_rules.Ends.{above, absent_same, ended_known, quiet_at, there, unabsent}
+use Rattle.again_laws.proofs.derived_rules.Ends.{above, absent_same, ended_known, quiet_at, there}
 use Rattle.again_laws.proofs.derived_rules.Follow.{no_item}
 use Rattle.again_laws.proofs.derived_rules.KeyParts.{KeyPart}
 use Rattle.again_laws.proofs.derived_rules.Shapes.{alike, re_is_absent}
@@ -35,7 +36,7 @@ use Rattle.again_laws.proofs.derived_rules.Tokens.{behind_word, blank_broke, end
 use Rattle.again_laws.proofs.derived_rules.Functions.{count_same, parameters_on, same_functions, tail_on}
 use Rattle.again_laws.proofs.derived_rules.Keys.{KeyAgain, any_key_on, key_on, private_key_on}
 use Rattle.again_laws.proofs.derived_rules.Objects.{marks_on}
-use Rattle.again_laws.proofs.derived_rules.Quoted.{constructor_means}
+use Rattle.again_laws.proofs.derived_rules.WordKeys.{constructor_means}
 
 static_else : static_kind ≡ else_kind → ⊥
 static_else e = omega arith
@@ -315,7 +316,7 @@ module _ (look : Look) (x : Lexicon look.style) where
         known = ended_known look x c (ends value) h.1 r0 h.4 y.known;
         again = (
           w.tree,
-          (λ e. unabsent (is_absent w.tree) _ _ (alike is_absent re_is_absent (leaves_at look x.naming) Plain value w.tree w.same ∙ a)
+          (λ e. by_no (is_absent w.tree) _ _ (alike is_absent re_is_absent (leaves_at look x.naming) Plain value w.tree w.same ∙ a)
               (i.0, y.m, took look x c assign_kind i.1, expr_low look x.naming assignment_level Alone value (in_field c) i.0 y.m h.3.0 (omega arith) w, ended look x c (ends w.tree) o.2)),
           w.same,
         );

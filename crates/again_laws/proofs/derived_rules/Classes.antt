@@ -1,5 +1,6 @@
 -- Classes derived again (15.7): what a class extends, and its members.
 use Rattle.std.proofs.Common.{Bool, [], ap₂, arith, codes, false, not, refl, subst, sym, true, true≢false, ◌||◌, ◌∙◌, ◌≡◌}
+use Rattle.std.proofs.lemmas.Bool.{eqb-false}
 use Rattle.base_token.specs.Kinds.{class_kind, else_kind, extends_kind, left_brace_kind, right_brace_kind}
 use Rattle.base_token.specs.declared.place.Span.{Span}
 use Rattle.tree_spec.specs.Places.{no_place}
@@ -10,6 +11,7 @@ use Rattle.grammar_spec.specs.Tokens.Shape.{is_absent, is_member}
 use Rattle.grammar_spec.specs.Functions.{ClassTail, Heritage, Members}
 use Rattle.grammar_spec.specs.Grammar.{Produces, children}
 use Rattle.grammar_spec.specs.Children.{By, Maybe, is_ident, child}
+use Rattle.grammar_laws.proofs.Covers.{by_no}
 use Rattle.print_gaps.specs.Edges.{is_there, starts_with_word}
 use Rattle.print_layout_spec.specs.Layout.{class_tail, indented_or_line, laid, rows, word}
 use Rattle.print_layout_spec.specs.Looks.{blank, brace, formats, gap_or, last, line, when, ◌·◌}
@@ -24,7 +26,7 @@ use Rattle.again_laws.specs.Derived.Redo.{AllRedone, Leaves, Mode, Plain, Redone
 use Rattle.again_laws.proofs.derived_rules.Naming.{leaves_at}
 use Rattle.again_laws.proofs.derived_rules.Begins.{first_token, is_loose, is_part, is_weak, led}
 use Rattle.again_laws.proofs.derived_rules.Bodies.{follow_closed}
-use Rattle.again_laws.proofs.derived_rules.Ends.{absent_same, there, unabsent}
+use Rattle.again_laws.proofs.derived_rules.Ends.{absent_same, there}
 use Rattle.again_laws.proofs.derived_rules.Follow.{follow_by, is_closed}
 use Rattle.again_laws.proofs.derived_rules.Lists.{more_same, none_same}
 use Rattle.again_laws.proofs.derived_rules.Names.{id_on, maybe_on}
@@ -37,9 +39,6 @@ extends_else e = omega arith
 
 class_else : class_kind ≡ else_kind → ⊥
 class_else e = omega arith
-
-brace_else : right_brace_kind ≡ else_kind → ⊥
-brace_else e = omega arith
 
 re_is_member : (l : Leaves) (m : Mode) (t : Tree) → is_member (redo l m t) ≡ is_member t
 re_is_member l m (constructor s k ps b) = refl
@@ -79,7 +78,7 @@ module _ (look : Look) (x : Lexicon look.style) where
     again : (r : Input) → Takes (unplaced c) right_brace_kind m r → (us : Trees) × Members (unplaced c) (children us) ts r × AllRedone (leaves_at look x.naming) Plain ms us
 
   no_members : (c : Code) (ts0 r0 : Input) → Takes c right_brace_kind ts0 r0 → Known ts0.places → (b : Spacing) (ts : Input) (K : Spacing → Input → Type 0) → kind ts ≡ right_brace_kind → K b ts → Members_on c none ts0 r0 ts K
-  no_members c ts0 r0 h k b ts K e q = record { d = b; m = ts; more = q; known = x.later ts0 r0 h.2 k; first = λ i. absurd (brace_else (sym e ∙ i)); again = λ r t. (none, t, none_same (leaves_at look x.naming)) }
+  no_members c ts0 r0 h k b ts K e q = record { d = b; m = ts; more = q; known = x.later ts0 r0 h.2 k; first = λ i. absurd (eqb-false right_brace_kind else_kind refl (sym e ∙ i)); again = λ r t. (none, t, none_same (leaves_at look x.naming)) }
 
   more_members : (c : Code) (t : Tree) (us : Trees) → is_member t ≡ true → (ts0 m0 r0 : Input) (b : Spacing) (ts : Input) (J K : Spacing → Input → Type 0) → (z : Out look x.naming Alone t c ts0 m0 b ts J) → Members_on c us m0 r0 z.m K → Members_on c (more t us) ts0 r0 ts K
   more_members c t us i ts0 m0 r0 b ts J K z v = record {
@@ -122,7 +121,7 @@ module _ (look : Look) (x : Lexicon look.style) where
         more = y.more;
         known = y.known;
         again = λ i. let w = y.again (follow_by Alone k r0 y.m left_brace_kind i refl) in
-            (w.tree, unabsent (is_absent w.tree) _ _ (alike is_absent re_is_absent (leaves_at look x.naming) Plain k w.tree w.same ∙ e) (q.0, worded look x c extends_kind q.1, expr_low look x.naming new_level Alone k c q.0 y.m h.2.0 (omega arith) w), w.same);
+            (w.tree, by_no (is_absent w.tree) _ _ (alike is_absent re_is_absent (leaves_at look x.naming) Plain k w.tree w.same ∙ e) (q.0, worded look x c extends_kind q.1, expr_low look x.naming new_level Alone k c q.0 y.m h.2.0 (omega arith) w), w.same);
       }
 
   record Class_tail (ms : Trees) (k : Tree) (c : Code) (r0 : Input) (ts : Input) (K : Spacing → Input → Type 0) : Type 0 where

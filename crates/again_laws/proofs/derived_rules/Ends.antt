@@ -7,6 +7,7 @@ use Rattle.grammar_spec.specs.Tokens.Operators.{assignment_level}
 use Rattle.grammar_spec.specs.Tokens.Shape.{is_absent, level}
 use Rattle.grammar_spec.specs.Grammar.{Produces}
 use Rattle.grammar_spec.specs.Children.{By, Ends, Expr, child}
+use Rattle.grammar_laws.proofs.Covers.{by_no}
 use Rattle.print_gaps.specs.Edges.{is_there}
 use Rattle.print_layout_spec.specs.Layout.{laid}
 use Rattle.print_layout_spec.specs.Looks.{formats, gap, text, when, ◌·◌}
@@ -37,10 +38,6 @@ there _ = refl
 pub absent_same : (l : Leaves) (m : Mode) (t : Tree) → is_absent t ≡ true → Redone l m t absent
 absent_same l m absent e = record { so = λ n. refl }
 absent_same l m _ e = absurd (true≢false (sym e))
-
-pub unabsent : (v : Bool) (A B : Type 0) → v ≡ false → B → By v A B
-unabsent true A B e h = absurd (true≢false e)
-unabsent false A B e h = h
 
 assign_function : assign_kind ≡ function_kind → ⊥
 assign_function e = omega arith
@@ -103,5 +100,5 @@ module _ (look : Look) (x : Lexicon look.style) where
         calms = λ g. closed_calm ts assign_kind (marked look x assign_kind i.1) refl;
         begins = λ n0 n g. before n0 m0 n ts r0 y.m (λ e. e) g (marked look x assign_kind i.1 ∙ sym h.1.0) (λ e. assign_function (sym (marked look x assign_kind i.1) ∙ e));
         again = λ g. let w = y.again (record { quiet = λ z. g; other = λ z. absurd (no_item e (above assignment_level (level e) (omega arith) h.2.0) z) }) in
-            (w.tree, unabsent (is_absent w.tree) _ _ (alike is_absent re_is_absent (leaves_at look x.naming) Plain e w.tree w.same ∙ a) (i.0, took look x c assign_kind i.1, expr_low look x.naming assignment_level Alone e o i.0 y.m h.2.0 (omega arith) w), w.same);
+            (w.tree, by_no (is_absent w.tree) _ _ (alike is_absent re_is_absent (leaves_at look x.naming) Plain e w.tree w.same ∙ a) (i.0, took look x c assign_kind i.1, expr_low look x.naming assignment_level Alone e o i.0 y.m h.2.0 (omega arith) w), w.same);
       }

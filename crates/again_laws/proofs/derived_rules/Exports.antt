@@ -1,5 +1,6 @@
 -- Exports derived again (16.2.3).
-use Rattle.std.proofs.Common.{Bool, [], ap, ap₂, arith, codes, false, if◌then◌else◌, not, refl, subst, sym, true, true≢false, ◌&&◌, ◌||◌, ◌∙◌, ◌≡◌}
+use Rattle.std.proofs.Common.{Bool, [], ap, ap₂, codes, false, if◌then◌else◌, not, refl, subst, sym, true, true≢false, ◌&&◌, ◌||◌, ◌∙◌, ◌≡◌}
+use Rattle.std.proofs.lemmas.Bool.{not-true, eqb-false}
 use Rattle.base_token.specs.Kinds.{else_kind, export_kind, from_kind, left_brace_kind, mul_kind, right_brace_kind}
 use Rattle.base_token.specs.declared.place.Span.{Span}
 use Rattle.tree_spec.specs.Places.{no_place}
@@ -10,6 +11,7 @@ use Rattle.grammar_spec.specs.Tokens.Shape.{is_absent, is_named_export, is_star_
 use Rattle.grammar_spec.specs.Grammar.{Produces, children}
 use Rattle.grammar_spec.specs.Modules.{ExportList, ExportStarAs, Source, Specified}
 use Rattle.grammar_spec.specs.Children.{By, Ends, IsEmpty, Sorted, is_module_item, child}
+use Rattle.grammar_laws.proofs.Covers.{by_no, by_yes}
 use Rattle.print_gaps.specs.Edges.{is_there}
 use Rattle.print_layout_spec.specs.Layout.{attributes, comma, exports, first_namespace, has_namespace, has_other, in_braces, is_namespace, is_no_namespace, laid, from as laid_from, named_items}
 use Rattle.print_layout_spec.specs.Looks.{Laid, blank, brace, formats, gap, nothing, semi, text, when, ◌·◌}
@@ -23,19 +25,16 @@ use Rattle.again_laws.specs.Tokens.Told.{says}
 use Rattle.again_laws.specs.Derived.Redo.{AllRedone, Leaves, Mode, Plain, Redone, redo}
 use Rattle.again_laws.proofs.derived_rules.Naming.{leaves_at}
 use Rattle.again_laws.proofs.derived_rules.Begins.{is_part}
-use Rattle.again_laws.proofs.derived_rules.Ends.{absent_same, ended_known, quiet_at, there, unabsent}
+use Rattle.again_laws.proofs.derived_rules.Ends.{absent_same, ended_known, quiet_at, there}
 use Rattle.again_laws.proofs.derived_rules.Follow.{calm, closed_calm}
 use Rattle.again_laws.proofs.derived_rules.KeyParts.{KeyPart}
 use Rattle.again_laws.proofs.derived_rules.Lists.{comma_on, listed, more_same, none_same, sorted}
 use Rattle.again_laws.proofs.derived_rules.Shapes.{alike, re_is_absent}
 use Rattle.again_laws.proofs.derived_rules.Sound.{AllSound, Sound, plain_part}
 use Rattle.again_laws.proofs.derived_rules.Tokens.{ended, gapped, keyed, marked, semi_of, skip, took, worded}
-use Rattle.again_laws.proofs.derived_rules.Imports.{first_same, put, unput}
+use Rattle.again_laws.proofs.derived_rules.Imports.{first_same}
 use Rattle.again_laws.proofs.derived_rules.Sources.{Sourced, source_on}
 use Rattle.again_laws.proofs.derived_rules.Specifiers.{EachIs, each_map, from_listed, items_separated, named_export_part, re_is_named_export}
-
-export_else : export_kind ≡ else_kind → ⊥
-export_else e = omega arith
 
 no_namespace_is : (t : Tree) → is_named_export t ≡ true → is_no_namespace t ≡ true
 no_namespace_is (export_named_specifier s a b) h = refl
@@ -49,19 +48,15 @@ re_is_star_export : (l : Leaves) (m : Mode) (t : Tree) → is_star_export (redo 
 re_is_star_export l m (export_namespace_specifier s a) = refl
 re_is_star_export l m _ = refl
 
-un_not : (b : Bool) → not b ≡ true → b ≡ false
-un_not true e = absurd (true≢false (sym e))
-un_not false e = refl
-
 no_namespace_in : (xs : Trees) → EachIs is_no_namespace xs → has_namespace xs ≡ false
 no_namespace_in none h = refl
-no_namespace_in (more t us) h = ap₂ (λ (a b : Bool). a || b) (un_not (is_namespace t) h.0) (no_namespace_in us h.1)
+no_namespace_in (more t us) h = ap₂ (λ (a b : Bool). a || b) (not-true (is_namespace t) h.0) (no_namespace_in us h.1)
 
 module _ (look : Look) (x : Lexicon look.style) where
   -- names are no namespace, and say nothing where that stands
   no_first : (xs : Trees) → EachIs is_no_namespace xs → (b : Spacing) (ts : Input) (K : Spacing → Input → Type 0) → says x.naming (first_namespace look xs) b ts K → K b ts
   no_first none e b ts K q = q
-  no_first (more t us) e b ts K q = no_first us e.1 b ts K (by (is_namespace t) (un_not (is_namespace t) e.0) q)
+  no_first (more t us) e b ts K q = no_first us e.1 b ts K (by (is_namespace t) (not-true (is_namespace t) e.0) q)
     where
       by : (v : Bool) → v ≡ false → says x.naming (if v then laid look Alone t else first_namespace look us) b ts K → says x.naming (first_namespace look us) b ts K
       by true i q = absurd (true≢false i)
@@ -119,7 +114,7 @@ module _ (look : Look) (x : Lexicon look.style) where
         u = z.u;
         v = z.v;
         calms = closed_calm ts from_kind y.1.0 refl;
-        produced = unabsent (is_absent z.u) _ _ (alike is_absent re_is_absent (leaves_at look x.naming) Plain src z.u z.same_u ∙ a) (y.0, y.1, z.produced);
+        produced = by_no (is_absent z.u) _ _ (alike is_absent re_is_absent (leaves_at look x.naming) Plain src z.u z.same_u ∙ a) (y.0, y.1, z.produced);
         same_u = z.same_u;
         same_v = z.same_v;
       }
@@ -195,7 +190,7 @@ module _ (look : Look) (x : Lexicon look.style) where
 
       as_list : (vs : Trees) (u v : Tree) (m : Input) → ExportList (unplaced c) (children vs) (child u (λ y. Produces u y)) (child v (λ y. Produces v y)) ts m → AllRedone (leaves_at look x.naming) Plain (more t us) vs → Specified (unplaced c) (children vs) (child u (λ y. Produces u y)) (child v (λ y. Produces v y)) ts m
       as_list none u v m h s = h
-      as_list (more w ws) u v m h s = unput (is_star_export w) _ _ (first_same look x.naming t us w ws s is_star_export re_is_star_export i) h
+      as_list (more w ws) u v m h s = by_no (is_star_export w) _ _ (first_same look x.naming t us w ws s is_star_export re_is_star_export i) h
 
   star_specified : (t : Tree) (src with_ : Tree) → Sound look x.naming Alone t → KeyPart look x.naming src → Sound look x.naming Alone with_ → (c : Code) (ts0 r0 : Input) → is_star_export t ≡ true → ExportStarAs c (child t (λ y. Produces t y)) (child src (λ y. Produces src y)) (child with_ (λ y. Produces with_ y)) ts0 r0 → Known ts0.places
       → (b : Spacing) (ts : Input) (K : Spacing → Input → Type 0) → says x.naming (specified_laid (more t none) src with_) b ts K → Specified_on (more t none) src with_ c r0 ts K
@@ -212,7 +207,7 @@ module _ (look : Look) (x : Lexicon look.style) where
         us = more w.tree none;
         u = v.u;
         v = v.v;
-        produced = put (is_star_export w.tree) _ _ (alike is_star_export re_is_star_export (leaves_at look x.naming) Plain t w.tree w.same ∙ i) (tt, (z.m, y.0, w.produced, y.1, v.produced));
+        produced = by_yes (is_star_export w.tree) _ _ (alike is_star_export re_is_star_export (leaves_at look x.naming) Plain t w.tree w.same ∙ i) (tt, (z.m, y.0, w.produced, y.1, v.produced));
         same_us = more_same (leaves_at look x.naming) Plain t w.tree none none w.same (none_same (leaves_at look x.naming));
         same_u = v.same_u;
         same_v = v.same_v;
@@ -251,7 +246,7 @@ module _ (look : Look) (x : Lexicon look.style) where
         known = z.known;
         broke = q.1.broke;
         tight = λ e. absurd (true≢false (sym e));
-        begins = λ e. absurd (export_else (sym (keyed look x export_kind q.1) ∙ e));
+        begins = λ e. absurd (eqb-false export_kind else_kind refl (sym (keyed look x export_kind q.1) ∙ e));
         again = λ l. record {
           tree = named_export (span (lo ts) z.m.last) z.us z.u z.v;
           produced = (q.0, worded look x c export_kind q.1, z.produced, refl);
@@ -275,7 +270,7 @@ module _ (look : Look) (x : Lexicon look.style) where
         known = z.known;
         broke = q.1.broke;
         tight = λ e. absurd (true≢false (sym e));
-        begins = λ e. absurd (export_else (sym (keyed look x export_kind q.1) ∙ e));
+        begins = λ e. absurd (eqb-false export_kind else_kind refl (sym (keyed look x export_kind q.1) ∙ e));
         again = λ l. record {
           tree = export_all (span (lo ts) z.m.last) z.u z.v;
           produced = (q.0, i.0, j.0, worded look x c export_kind q.1, took look x c mul_kind i.1, worded look x c from_kind j.1, z.produced, refl);

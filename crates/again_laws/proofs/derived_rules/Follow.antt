@@ -36,9 +36,6 @@ or_false : (a b : Bool) → not (a || b) ≡ true → (a ≡ false) × (not b �
 or_false true b e = absurd (true≢false (sym e))
 or_false false b e = (refl, e)
 
-and_no : (a b : Bool) → a ≡ false → (a && b) ≡ false
-and_no a b e = subst (λ (x : Bool). (x && b) ≡ false) (sym e) refl
-
 calm_by : (a b c d e f g : Bool) → not (a || (b || (c || (d || (e || f))))) ≡ true → not (a || (b || (c || (d || (e && g))))) ≡ true
 calm_by true b c d e f g h = h
 calm_by false true c d e f g h = h

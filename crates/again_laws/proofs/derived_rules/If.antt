@@ -10,6 +10,7 @@ use Rattle.grammar_spec.specs.Tokens.Shape.{is_absent, is_item, is_plain_functio
 use Rattle.grammar_spec.specs.Grammar.{Produces}
 use Rattle.grammar_spec.specs.Children.{By, child}
 use Rattle.grammar_spec.specs.Statements.{SubOrFunction}
+use Rattle.grammar_laws.proofs.Covers.{by_no}
 use Rattle.print_gaps.specs.Edges.{is_there, starts_with_word}
 use Rattle.print_layout_spec.specs.Layout.{closing, is_block as is_block_tree, laid, word}
 use Rattle.print_layout_spec.specs.Looks.{Laid, blank, formats, gap, gap_or, when, ◌·◌}
@@ -24,7 +25,7 @@ use Rattle.again_laws.specs.Derived.Redo.{Plain, Redone}
 use Rattle.again_laws.proofs.derived_rules.Naming.{leaves_at}
 use Rattle.again_laws.proofs.derived_rules.Begins.{item_outer}
 use Rattle.again_laws.proofs.derived_rules.Bodies.{follow_closed, item_closed, statement_on}
-use Rattle.again_laws.proofs.derived_rules.Ends.{absent_same, there, unabsent}
+use Rattle.again_laws.proofs.derived_rules.Ends.{absent_same, there}
 use Rattle.again_laws.proofs.derived_rules.Shapes.{alike, re_is_absent, re_is_plain_function, re_is_statement}
 use Rattle.again_laws.proofs.derived_rules.Sound.{Sound}
 use Rattle.again_laws.proofs.derived_rules.Tokens.{gapped, keyed, skip, worded}
@@ -77,7 +78,7 @@ module _ (look : Look) (x : Lexicon look.style) where
         known = z.known;
         first = λ g q. h.1.0;
         again = λ g. let w = z.again (follow_closed alt r0 z.m (item_closed alt n) g) in
-            (w.tree, unabsent (is_absent w.tree) _ _ (alike is_absent re_is_absent (leaves_at look x.naming) Plain alt w.tree w.same ∙ e) (i.0, worded look x c else_kind i.1, (body_same c alt w.tree w.same h.2.0, w.produced)), w.same);
+            (w.tree, by_no (is_absent w.tree) _ _ (alike is_absent re_is_absent (leaves_at look x.naming) Plain alt w.tree w.same ∙ e) (i.0, worded look x c else_kind i.1, (body_same c alt w.tree w.same h.2.0, w.produced)), w.same);
       }
 
   abbrev else_part : Tree → Tree → Laid

@@ -9,6 +9,7 @@ use Rattle.grammar_spec.specs.Tokens.Shape.{is_default_import, is_named_import, 
 use Rattle.grammar_spec.specs.Grammar.{Produces, children}
 use Rattle.grammar_spec.specs.Modules.{AfterDefault, ImportClause, NamedImports}
 use Rattle.grammar_spec.specs.Children.{By, IsEmpty, Sorted, is_module_item}
+use Rattle.grammar_laws.proofs.Covers.{by_yes, by_no}
 use Rattle.print_layout_spec.specs.Layout.{attributes, comma, has_default, has_named, import_heads, imports, in_braces, is_default, is_named, laid, named_items, starts_with_default, word}
 use Rattle.print_layout_spec.specs.Looks.{Laid, blank, brace, formats, gap, nothing, semi, when, ◌·◌}
 use Rattle.print_layout_spec.specs.declared.look.Look.{Look}
@@ -69,14 +70,6 @@ pick false A B e h = absurd (true≢false (sym e))
 other : (v : Bool) (A B : Type 0) → v ≡ false → By v A B → B
 other true A B e h = absurd (true≢false e)
 other false A B e h = h
-
-pub put : (v : Bool) (A B : Type 0) → v ≡ true → A → By v A B
-put true A B e h = h
-put false A B e h = absurd (true≢false (sym e))
-
-pub unput : (v : Bool) (A B : Type 0) → v ≡ false → B → By v A B
-unput true A B e h = absurd (true≢false e)
-unput false A B e h = h
 
 -- what is no such tree first is none again
 pub first_same : (look : Look) (naming : Naming) (t : Tree) (us : Trees) (u : Tree) (vs : Trees) → AllRedone (leaves_at look naming) Plain (more t us) (more u vs) → (p : Tree → Bool) → ((l : Leaves) (m : Mode) (t : Tree) → p (redo l m t) ≡ p t) → p t ≡ false → p u ≡ false
@@ -183,7 +176,7 @@ module _ (look : Look) (x : Lexicon look.style) where
 
       as_names : (vs : Trees) (m : Input) → NamedImports (unplaced c) (children vs) ts m → AllRedone (leaves_at look x.naming) Plain (more t us) vs → (n : Input) → TakesWord (unplaced c) from_kind m n → ImportClause (unplaced c) (children vs) ts n
       as_names none m g s n w = absurd (none_more _ _ (s.so Plain))
-      as_names (more u vs) m g s n w = (m, unput (is_default_import u) _ _ (first_same look x.naming t us u vs s is_default_import re_is_default_import i) (unput (is_star_import u) _ _ (first_same look x.naming t us u vs s is_star_import re_is_star_import j) g), w)
+      as_names (more u vs) m g s n w = (m, by_no (is_default_import u) _ _ (first_same look x.naming t us u vs s is_default_import re_is_default_import i) (by_no (is_star_import u) _ _ (first_same look x.naming t us u vs s is_star_import re_is_star_import j) g), w)
 
   -- a namespace alone
   star_on : (t : Tree) → Sound look x.naming Alone t → (c : Code) (ts0 m0 r0 : Input) → is_default_import t ≡ false → is_star_import t ≡ true → Produces t c ts0 m0 → TakesWord c from_kind m0 r0 → Known ts0.places → (b : Spacing) (ts : Input) (K : Spacing → Input → Type 0) → says x.naming (clause_laid (more t none)) b ts K → Clause_on (more t none) c r0 ts K
@@ -197,7 +190,7 @@ module _ (look : Look) (x : Lexicon look.style) where
         m = o.0;
         more = o.2;
         known = x.later m0 r0 f.3 z.known;
-        again = (more w.0 none, (z.m, unput (is_default_import w.0) _ _ (alike is_default_import re_is_default_import (leaves_at look x.naming) Plain t w.0 w.2 ∙ i) (put (is_star_import w.0) _ _ (alike is_star_import re_is_star_import (leaves_at look x.naming) Plain t w.0 w.2 ∙ j) (tt, w.1)), o.1), more_same (leaves_at look x.naming) Plain t w.0 none none w.2 (none_same (leaves_at look x.naming)));
+        again = (more w.0 none, (z.m, by_no (is_default_import w.0) _ _ (alike is_default_import re_is_default_import (leaves_at look x.naming) Plain t w.0 w.2 ∙ i) (by_yes (is_star_import w.0) _ _ (alike is_star_import re_is_star_import (leaves_at look x.naming) Plain t w.0 w.2 ∙ j) (tt, w.1)), o.1), more_same (leaves_at look x.naming) Plain t w.0 none none w.2 (none_same (leaves_at look x.naming)));
       }
     where
       undefault : (v : Bool) → v ≡ false → (w : Bool) → w ≡ false
@@ -244,7 +237,7 @@ module _ (look : Look) (x : Lexicon look.style) where
         more = o.2;
         known = x.later r0 e0 f.3 z.known;
         calms = closed_calm ts comma_kind (marked look x comma_kind l.1) refl;
-        again = (more w.0 none, z.m, (l.0, took look x c comma_kind l.1, put (is_star_import w.0) _ _ (alike is_star_import re_is_star_import (leaves_at look x.naming) Plain t w.0 w.2 ∙ j) (tt, w.1)), o.1, more_same (leaves_at look x.naming) Plain t w.0 none none w.2 (none_same (leaves_at look x.naming)));
+        again = (more w.0 none, z.m, (l.0, took look x c comma_kind l.1, by_yes (is_star_import w.0) _ _ (alike is_star_import re_is_star_import (leaves_at look x.naming) Plain t w.0 w.2 ∙ j) (tt, w.1)), o.1, more_same (leaves_at look x.naming) Plain t w.0 none none w.2 (none_same (leaves_at look x.naming)));
       }
     where
       undefault : (v : Bool) → v ≡ false → (w : Bool) → w ≡ false
@@ -275,7 +268,7 @@ module _ (look : Look) (x : Lexicon look.style) where
 
       as_after : (vs : Trees) (n m : Input) → Takes (unplaced c) comma_kind ts n → NamedImports (unplaced c) (children vs) n m → AllRedone (leaves_at look x.naming) Plain (more t us) vs → AfterDefault (unplaced c) (children vs) ts m
       as_after none n m i g s = absurd (none_more _ _ (s.so Plain))
-      as_after (more u vs) n m i g s = (n, i, unput (is_star_import u) _ _ (first_same look x.naming t us u vs s is_star_import re_is_star_import j) g)
+      as_after (more u vs) n m i g s = (n, i, by_no (is_star_import u) _ _ (first_same look x.naming t us u vs s is_star_import re_is_star_import j) g)
 
   star_alone : (u : Tree) (us : Trees) → Sound look x.naming Alone u → (c : Code) (n0 l0 m0 r0 : Input) → Takes c comma_kind n0 l0 → is_star_import u ≡ true → IsEmpty (children us) → Produces u c l0 m0 → TakesWord c from_kind m0 r0 → Known n0.places → (b : Spacing) (ts : Input) (K : Spacing → Input → Type 0) → says x.naming (rest_laid (more u us)) b ts K → After_on (more u us) c r0 ts K
   star_alone u none g c n0 l0 m0 r0 t e i h f k b ts K q = later_star u g c n0 l0 m0 r0 t e h f k b ts K q
@@ -302,7 +295,7 @@ module _ (look : Look) (x : Lexicon look.style) where
         m = v.m;
         more = v.more;
         known = v.known;
-        again = (more w.0 o.0, (o.1, put (is_default_import w.0) _ _ (alike is_default_import re_is_default_import (leaves_at look x.naming) Plain t w.0 w.2 ∙ i) (z.m, w.1, o.2), o.3), more_same (leaves_at look x.naming) Plain t w.0 xs o.0 w.2 o.4);
+        again = (more w.0 o.0, (o.1, by_yes (is_default_import w.0) _ _ (alike is_default_import re_is_default_import (leaves_at look x.naming) Plain t w.0 w.2 ∙ i) (z.m, w.1, o.2), o.3), more_same (leaves_at look x.naming) Plain t w.0 xs o.0 w.2 o.4);
       }
     where
       by : (v : Bool) → v ≡ true → (w : Bool) → w ≡ false

@@ -10,6 +10,7 @@ use Rattle.grammar_spec.specs.Tokens.Shape.{ends, is_absent, level}
 use Rattle.grammar_spec.specs.Grammar.{Produces}
 use Rattle.grammar_spec.specs.Children.{By, Ends, Expr, Sorted, is_ident, child}
 use Rattle.grammar_spec.specs.Statements.{Jump}
+use Rattle.grammar_laws.proofs.Covers.{by_no}
 use Rattle.print_gaps.specs.Edges.{is_there, starts_with_word}
 use Rattle.print_layout_spec.specs.Layout.{closing, laid}
 use Rattle.print_layout_spec.specs.Looks.{blank, formats, gap_or, semi, text, when, ◌·◌}
@@ -26,7 +27,7 @@ use Rattle.again_laws.specs.Derived.Redo.{Plain, Redone}
 use Rattle.again_laws.proofs.derived_rules.Naming.{leaves_at}
 use Rattle.again_laws.proofs.derived_rules.Begins.{item_outer}
 use Rattle.again_laws.proofs.derived_rules.Bodies.{follow_closed, item_closed, statement_on}
-use Rattle.again_laws.proofs.derived_rules.Ends.{above, absent_same, ended_known, quiet_at, there, unabsent}
+use Rattle.again_laws.proofs.derived_rules.Ends.{above, absent_same, ended_known, quiet_at, there}
 use Rattle.again_laws.proofs.derived_rules.Follow.{no_item}
 use Rattle.again_laws.proofs.derived_rules.Names.{id_on}
 use Rattle.again_laws.proofs.derived_rules.Shapes.{alike, re_is_absent}
@@ -89,7 +90,7 @@ module _ (look : Look) (x : Lexicon look.style) where
             begins = λ e. absurd (opens (sym at_kind ∙ e));
             again = λ l. let w = y.again (record { quiet = λ z. j.calm; other = λ z. absurd (no_item e (above expression_level (level e) (omega arith) g.2.0) z) }) in record {
               tree = return_stmt (span (lo ts) o.1.last) w.tree;
-              produced = (q.0, worded look x c return_kind q.1, unabsent (is_absent w.tree) _ _ (alike is_absent re_is_absent (leaves_at look x.naming) Plain e w.tree w.same ∙ a) (y.m, behind_word look x return_kind refl q.1 y.broke ∙ blank_broke (starts_with_word e || formats look) Touching, expr_low look x.naming expression_level Alone e c q.0 y.m g.2.0 (omega arith) w, ended look x c (ends w.tree) o.2), refl);
+              produced = (q.0, worded look x c return_kind q.1, by_no (is_absent w.tree) _ _ (alike is_absent re_is_absent (leaves_at look x.naming) Plain e w.tree w.same ∙ a) (y.m, behind_word look x return_kind refl q.1 y.broke ∙ blank_broke (starts_with_word e || formats look) Touching, expr_low look x.naming expression_level Alone e c q.0 y.m g.2.0 (omega arith) w, ended look x c (ends w.tree) o.2), refl);
               directive = refl;
               quoted = λ p q. refl;
               same = record { so = λ n. ap (λ (t : Tree). return_stmt no_place t) (w.same.so Plain) };
@@ -150,7 +151,7 @@ module _ (look : Look) (x : Lexicon look.style) where
             known = ended_known look x c plain_end h.1 r0 h.4 z.known;
             broke = q.1.broke;
             lead = keyed look x word q.1;
-            again = (z.again.0, (q.0, z.m, worded look x c word q.1, unabsent (is_absent z.again.0) _ _ (alike is_absent re_is_absent (leaves_at look x.naming) Plain label z.again.0 z.again.2 ∙ a) (behind_word look x word j q.1 z.broke, z.again.1), ended look x c plain_end o.2, refl), z.again.2);
+            again = (z.again.0, (q.0, z.m, worded look x c word q.1, by_no (is_absent z.again.0) _ _ (alike is_absent re_is_absent (leaves_at look x.naming) Plain label z.again.0 z.again.2 ∙ a) (behind_word look x word j q.1 z.broke, z.again.1), ended look x c plain_end o.2, refl), z.again.2);
           }
 
   pub break_on : (s : Span) (l : Tree) (st : Stand) → Sound look x.naming st (break_stmt s l)

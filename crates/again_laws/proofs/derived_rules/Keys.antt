@@ -1,6 +1,6 @@
 -- Keys derived again (13.2.5): a word in ASCII alone may become a string.
 use Rattle.std.proofs.Common.{Bool, List, Some, ap, arith, chars, false, if◌then◌else◌, refl, subst, sym, true, true≢false, ℕ, ◌||◌, ◌∙◌, ◌≡◌}
-use Rattle.std.proofs.lemmas.Bool.{or_left, or_right}
+use Rattle.std.proofs.lemmas.Bool.{or_left, or_right, eqb-false}
 use Rattle.base_token.specs.Kinds.{else_kind, left_bracket_kind, right_bracket_kind, str_kind}
 use Rattle.base_token.specs.Tokens.{Quoted}
 use Rattle.base_token.specs.Utf16.{utf16}
@@ -33,7 +33,7 @@ use Rattle.again_laws.proofs.derived_rules.KeyParts.{KeyPart}
 use Rattle.again_laws.proofs.derived_rules.Shapes.{alike, re_is_key, re_is_private}
 use Rattle.again_laws.proofs.derived_rules.Sound.{Sound, expr, expr_low, plain_part}
 use Rattle.again_laws.proofs.derived_rules.Tokens.{marked, took}
-use Rattle.again_laws.proofs.derived_rules.Quoted.{key_as_name, quoted_constructs}
+use Rattle.again_laws.proofs.derived_rules.WordKeys.{key_as_name, quoted_constructs}
 
 key_plain : (k : Tree) → is_key k ≡ true → (is_part k ≡ true) × (is_module_item k ≡ false)
 key_plain (ident_name s n) h = (refl, refl)
@@ -53,9 +53,6 @@ key_follow _ h r m = absurd (true≢false (sym h))
 
 bracket_else : left_bracket_kind ≡ else_kind → ⊥
 bracket_else e = omega arith
-
-string_else : str_kind ≡ else_kind → ⊥
-string_else e = omega arith
 
 re_constructs : (l : Leaves) (m : Mode) (t : Tree) → constructs (redo l m t) ≡ constructs t
 re_constructs l m (ident_name s n) = refl
@@ -120,7 +117,7 @@ module _ (look : Look) (x : Lexicon look.style) where
         more = q;
         known = x.later ts0 r0 h.0.3 l;
         broke = t.broke;
-        first = λ e. absurd (string_else (sym z.0 ∙ e));
+        first = λ e. absurd (eqb-false str_kind else_kind refl (sym z.0 ∙ e));
         again = (str_lit (span (lo ts) m.last) (utf16 (chars n)) (Some (key_bytes look.style n)), refl, (key_bytes look.style n, refl, i, (z.0, tt, t.after), refl), λ i. sym (ap (λ (v : Bool). if v then str_lit no_place (utf16 (chars n)) (Some (key_bytes look.style n)) else ident_name no_place n) e));
         constructor_as = λ i. absurd (true≢false (sym i ∙ quoted_constructs look.style n e));
       }

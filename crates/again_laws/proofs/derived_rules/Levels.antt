@@ -1,5 +1,6 @@
 -- The level of a tree that is given anew: that of `new` alone may change, with its parentheses (13.3.5).
 use Rattle.std.proofs.Common.{Bool, ap, arith, false, if◌then◌else◌, inl, inr, min, refl, subst, sym, true, true≢false, ℕ, ◌||◌, ◌∙◌, ◌≡◌, ◌≤◌, ◌⊎◌}
+use Rattle.base_proofs.proofs.Bools.{or_true}
 use Rattle.base_token.specs.declared.place.Span.{Span}
 use Rattle.tree_spec.specs.Places.{no_place}
 use Rattle.tree_spec.specs.Tree.{Tree, absent, bin_expr, ident, list, member_expr, more, new_expr, none, tagged_tpl}
@@ -80,17 +81,13 @@ kept_level places n (new_expr s f absent) = refl
 kept_level places n (new_expr s f _) = refl
 kept_level places n _ = refl
 
-some : (v : Bool) → (v || true) ≡ true
-some true = refl
-some false = refl
-
 given_level : (v : Bool) (f : Tree) → v ≡ true → level (new_expr no_place f (given_none v)) ≡ member_level
 given_level true f e = refl
 given_level false f e = absurd (true≢false (sym e))
 
 new_head : (look : Look) (f a : Tree) → level (new_expr no_place f (new_arguments look true a)) ≡ member_level
-new_head look f absent = given_level (formats look || true) f (some (formats look))
-new_head look f (list none) = given_level (formats look || true) f (some (formats look))
+new_head look f absent = given_level (formats look || true) f (or_true (formats look))
+new_head look f (list none) = given_level (formats look || true) f (or_true (formats look))
 new_head look f (list (more t ts)) = refl
 new_head look f _ = refl
 

@@ -1,6 +1,6 @@
 -- `while` and `do` derived again, and `for` with two semicolons (14.7.2 to 14.7.4).
 use Rattle.std.proofs.Common.{Bool, ap, ap₂, arith, codes, false, inl, inr, nat_le, not, refl, subst, sym, true, true≢false, ℕ, ◌&&◌, ◌==◌, ◌||◌, ◌∙◌, ◌≡◌, ◌⊎◌}
-use Rattle.std.proofs.lemmas.Bool.{ne_eqb, or_left}
+use Rattle.std.proofs.lemmas.Bool.{ne_eqb, or_left, eqb-false}
 use Rattle.base_token.specs.Kinds.{async_kind, class_kind, do_kind, else_kind, for_kind, function_kind, left_brace_kind, left_bracket_kind, left_paren_kind, let_kind, right_paren_kind, semicolon_kind, while_kind}
 use Rattle.base_token.specs.declared.place.Span.{Span}
 use Rattle.lex_token.specs.declared.goal.LexicalGoal.TheVariants.{Div}
@@ -8,10 +8,11 @@ use Rattle.tree_spec.specs.Places.{no_place}
 use Rattle.tree_spec.specs.Tree.{Tree, Trees, absent, do_while_stmt, for_stmt, using_decl, var_decl, while_stmt}
 use Rattle.grammar_spec.specs.Tokens.Input.{Code, Input, Takes, alone, assigning, brk2, kind, kind2, lo, rest, span, unplaced, without_in}
 use Rattle.grammar_spec.specs.Tokens.Operators.{expression_level, plain_end}
-use Rattle.grammar_spec.specs.Tokens.Shape.{is_absent, is_item, is_statement, level}
+use Rattle.grammar_spec.specs.Tokens.Shape.{is_absent, is_statement, level}
 use Rattle.grammar_spec.specs.Grammar.{Produces}
 use Rattle.grammar_spec.specs.Children.{By, Ends, Expr, child}
 use Rattle.grammar_spec.specs.Statements.{Clause, ForExpression, ForRest, Sub, starts_head}
+use Rattle.grammar_laws.proofs.Covers.{by_no}
 use Rattle.print_gaps.specs.Edges.{is_there, starts_with_word}
 use Rattle.print_layout_spec.specs.Layout.{closing, in_parens, is_variables, laid, word}
 use Rattle.print_layout_spec.specs.Looks.{Laid, formats, gap, nothing, semi, semi_kept, text, when, ◌·◌}
@@ -27,7 +28,7 @@ use Rattle.again_laws.specs.Derived.Redo.{Leaves, Plain, Redone}
 use Rattle.again_laws.proofs.derived_rules.Naming.{leaves_at}
 use Rattle.again_laws.proofs.derived_rules.Begins.{Begins, fine, item_outer, same_start}
 use Rattle.again_laws.proofs.derived_rules.Bodies.{follow_closed, item_closed, statement_on}
-use Rattle.again_laws.proofs.derived_rules.Ends.{above, absent_same, there, unabsent}
+use Rattle.again_laws.proofs.derived_rules.Ends.{above, absent_same, there}
 use Rattle.again_laws.proofs.derived_rules.Follow.{closed_calm, closes, follow_by}
 use Rattle.again_laws.proofs.derived_rules.Shapes.{alike, re_is_absent, re_is_statement, re_is_variables}
 use Rattle.again_laws.proofs.derived_rules.Sound.{AllSound, Out, Sound, expr, expr_begins, expr_low, full}
@@ -38,21 +39,12 @@ use Rattle.again_laws.proofs.derived_rules.Variables.{bindings_on, used_on}
 pub for_no_else : for_kind ≡ else_kind → ⊥
 for_no_else e = omega arith
 
-while_no_else : while_kind ≡ else_kind → ⊥
-while_no_else e = omega arith
-
-pub statement_item : (t : Tree) → is_statement t ≡ true → is_item t ≡ true
-statement_item t h = or_left (is_statement t) _ h
-
 laid_absent : (look : Look) (t : Tree) → is_absent t ≡ true → laid look Alone t ≡ nothing
 laid_absent look absent h = refl
 laid_absent look _ h = absurd (true≢false (sym h))
 
 do_no_else : do_kind ≡ else_kind → ⊥
 do_no_else e = omega arith
-
-while_else : while_kind ≡ else_kind → ⊥
-while_else e = omega arith
 
 head_bits : (l j j0 : Bool) → (l ≡ true → (j ≡ false) ⊎ (j ≡ j0)) → not (l && j0) ≡ true → not (l && j) ≡ true
 head_bits false j j0 f h = refl
@@ -96,12 +88,12 @@ module _ (look : Look) (x : Lexicon look.style) where
 
   pub body_on : (t : Tree) → Sound look x.naming Alone t → (c : Code) (ts0 r0 : Input) → Sub c (child t (λ y. Produces t y)) ts0 r0 → Known ts0.places → (b : Spacing) (ts : Input) (K : Spacing → Input → Type 0) → says x.naming (laid look Alone t · closing look t) b ts K → Bodied t c r0 ts K
   body_on t f c ts0 r0 h k b ts K q =
-      let z = statement_on look x t f (item_outer t (statement_item t h.0)) (alone c) ts0 r0 h.1 k b ts K q in record {
+      let z = statement_on look x t f (item_outer t (or_left (is_statement t) _ h.0)) (alone c) ts0 r0 h.1 k b ts K q in record {
         d = z.more.0;
         m = z.m;
         more = z.more.1;
         known = z.known;
-        again = λ l. let w = z.again (follow_closed t r0 z.m (item_closed t (statement_item t h.0)) l) in (w.tree, (alike is_statement re_is_statement (leaves_at look x.naming) Plain t w.tree w.same ∙ h.0, w.produced), w.same);
+        again = λ l. let w = z.again (follow_closed t r0 z.m (item_closed t (or_left (is_statement t) _ h.0)) l) in (w.tree, (alike is_statement re_is_statement (leaves_at look x.naming) Plain t w.tree w.same ∙ h.0, w.produced), w.same);
       }
 
   pub while_on : (s : Span) (t b : Tree) → Sound look x.naming Alone t → Sound look x.naming Alone b → (st : Stand) → Sound look x.naming st (while_stmt s t b)
@@ -114,7 +106,7 @@ module _ (look : Look) (x : Lexicon look.style) where
         known = z.known;
         broke = q.1.broke;
         tight = λ e. absurd (true≢false (sym e));
-        begins = λ e. absurd (while_no_else (sym (keyed look x while_kind q.1) ∙ e));
+        begins = λ e. absurd (eqb-false while_kind else_kind refl (sym (keyed look x while_kind q.1) ∙ e));
         again = λ l. let w = z.again (l.other refl) in record {
           tree = while_stmt (span (lo ts) z.m.last) y.again.0 w.0;
           produced = (q.0, y.m, worded look x c while_kind q.1, y.again.1, w.1, refl);
@@ -137,7 +129,7 @@ module _ (look : Look) (x : Lexicon look.style) where
         broke = q.1.broke;
         tight = λ e. absurd (true≢false (sym e));
         begins = λ e. absurd (do_no_else (sym (keyed look x do_kind q.1) ∙ e));
-        again = λ l. let w = z.again (λ e. absurd (while_else (sym (keyed look x while_kind i.1) ∙ e))) in record {
+        again = λ l. let w = z.again (λ e. absurd (eqb-false while_kind else_kind refl (sym (keyed look x while_kind i.1) ∙ e))) in record {
           tree = do_while_stmt (span (lo ts) o.1.last) y.again.0 w.0;
           produced = (q.0, z.m, i.0, y.m, worded look x c do_kind q.1, w.1, worded look x c while_kind i.1, y.again.1, inserted (ended look x c plain_end o.2), refl);
           directive = refl;
@@ -176,7 +168,7 @@ module _ (look : Look) (x : Lexicon look.style) where
         n = o.0;
         more = o.2;
         known = x.later h.0 r0 h.2.2 y.known;
-        again = (w.tree, (y.m, unabsent (is_absent w.tree) _ _ (alike is_absent re_is_absent (leaves_at look x.naming) Plain e w.tree w.same ∙ a) (expr_low look x.naming expression_level Alone e c ts y.m h.1.0 (omega arith) w), took look x c close o.1), w.same);
+        again = (w.tree, (y.m, by_no (is_absent w.tree) _ _ (alike is_absent re_is_absent (leaves_at look x.naming) Plain e w.tree w.same ∙ a) (expr_low look x.naming expression_level Alone e c ts y.m h.1.0 (omega arith) w), took look x c close o.1), w.same);
       }
 
   record Rested (t u b : Tree) (c : Code) (r0 : Input) (ts : Input) (K : Spacing → Input → Type 0) : Type 0 where
@@ -256,7 +248,7 @@ module _ (look : Look) (x : Lexicon look.style) where
           told = took look x c semicolon_kind i.1;
           again = (
             w.tree,
-            unabsent (is_absent w.tree) _ _ (alike is_absent re_is_absent (leaves_at look x.naming) Plain e w.tree w.same ∙ a) (
+            by_no (is_absent w.tree) _ _ (alike is_absent re_is_absent (leaves_at look x.naming) Plain e w.tree w.same ∙ a) (
               head_again ts0 m0 ts y.m (expr_begins look x.naming Alone e (assigning (without_in c)) ts0 m0 b ts _ (above expression_level (level e) (omega arith) h.1.0) y) (semicolon_bracket y.m j) h.0,
               expr_low look x.naming expression_level Alone e (without_in c) ts y.m h.1.0 (omega arith) w,
             ),

@@ -35,7 +35,7 @@ use Rattle.again_laws.proofs.derived_rules.Levels.{level_head}
 use Rattle.again_laws.proofs.derived_rules.Shapes.{alike, re_is_chain, re_is_private, re_is_word_name}
 use Rattle.again_laws.proofs.derived_rules.Sound.{Again, Out, Sound, expr, expr_begins, expr_low, full, is_tight, plain_part}
 use Rattle.again_laws.proofs.derived_rules.Tokens.{keyed, marked, took, worded}
-use Rattle.again_laws.proofs.derived_rules.Heads.{at_least_new, follow_chain, leads_on, never_asked, over_call}
+use Rattle.again_laws.proofs.derived_rules.CallHeads.{follow_chain, leads_on, never_asked, over_call}
 
 abbrev pub is_number : Tree → Bool
 is_number (number_lit at v w) = true
@@ -45,7 +45,7 @@ abbrev pub object : Look → Tree → Tree → Laid
 object look (number_lit at v w) k = number_before look at v w k
 object look o k = laid look Head o
 
-laid_member : (look : Look) (st : Stand) (s : Span) (o k : Tree) → laid look st (member_expr s o k) ≡ (start s · object look o k · point_before k · laid look Alone k · end s)
+pub laid_member : (look : Look) (st : Stand) (s : Span) (o k : Tree) → laid look st (member_expr s o k) ≡ (start s · object look o k · point_before k · laid look Alone k · end s)
 laid_member look st s (number_lit at v w) k = refl
 laid_member look st s _ k = refl
 
@@ -249,7 +249,7 @@ module _ (look : Look) (x : Lexicon look.style) where
         broke = y.broke;
         tight = λ e. z.tight;
         begins = before ts0 h.0 ts y.m r0 z.m (λ e. e) y.begins z.lead z.bars.0;
-        again = λ i. let w = y.again (follow_chain o h.0 y.m (at_least_new (level o) h.2.0) z.bars.1) in let v = z.again in record {
+        again = λ i. let w = y.again (follow_chain o h.0 y.m (over_call (level o) h.2.0) z.bars.1) in let v = z.again in record {
           tree = member_expr (span (lo ts) z.m.last) w.tree v.0;
           produced = j (span (lo ts) z.m.last) w.tree v.0 ts y.m z.m (alike is_chain re_is_chain (leaves_at look x.naming) (object_mode Plain k) o w.tree w.same ∙ h.1) (level_head look x.naming (object_mode Plain k) o w.tree (object_head_mode k) w.same call_level h.2.0, w.produced) v.1 refl;
           directive = refl;

@@ -7,6 +7,7 @@ use Rattle.grammar_spec.specs.Tokens.Input.{Code, Input, kind, lo, span, unplace
 use Rattle.grammar_spec.specs.Tokens.Shape.{is_absent}
 use Rattle.grammar_spec.specs.Grammar.{Produces}
 use Rattle.grammar_spec.specs.Children.{By, Sorted, is_ident, child}
+use Rattle.grammar_laws.proofs.Covers.{by_no}
 use Rattle.print_layout_spec.specs.Layout.{laid}
 use Rattle.print_layout_spec.specs.Looks.{blank, when, ◌·◌}
 use Rattle.print_layout_spec.specs.declared.look.Look.{Look}
@@ -17,7 +18,7 @@ use Rattle.again_laws.specs.Tokens.Means.{Known}
 use Rattle.again_laws.specs.Tokens.Told.{Breaks, says}
 use Rattle.again_laws.specs.Derived.Redo.{Plain, Redone}
 use Rattle.again_laws.proofs.derived_rules.Naming.{leaves_at}
-use Rattle.again_laws.proofs.derived_rules.Ends.{absent_same, unabsent}
+use Rattle.again_laws.proofs.derived_rules.Ends.{absent_same}
 use Rattle.again_laws.proofs.derived_rules.Shapes.{alike, re_is_absent}
 use Rattle.again_laws.proofs.derived_rules.Tokens.{named}
 
@@ -56,5 +57,5 @@ module _ (look : Look) (x : Lexicon look.style) where
     m = z.m;
     more = z.more;
     known = z.known;
-    again = (z.again.0, unabsent (is_absent z.again.0) _ _ (alike is_absent re_is_absent (leaves_at look x.naming) Plain i z.again.0 z.again.2 ∙ e) z.again.1, z.again.2);
+    again = (z.again.0, by_no (is_absent z.again.0) _ _ (alike is_absent re_is_absent (leaves_at look x.naming) Plain i z.again.0 z.again.2 ∙ e) z.again.1, z.again.2);
   }

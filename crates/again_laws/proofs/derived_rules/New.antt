@@ -30,7 +30,7 @@ use Rattle.again_laws.proofs.derived_rules.Lists.{none_same}
 use Rattle.again_laws.proofs.derived_rules.Sound.{AllSound, Out, Sound, full, plain_part, tight_of}
 use Rattle.again_laws.proofs.derived_rules.Tokens.{gapped, keyed, marked, skip, took, worded}
 use Rattle.again_laws.proofs.derived_rules.Calls.{arguments_on}
-use Rattle.again_laws.proofs.derived_rules.Heads.{follow_head, follow_none, head_mode}
+use Rattle.again_laws.proofs.derived_rules.CallHeads.{follow_head, follow_none, head_mode}
 
 abbrev is_args : Tree → Bool
 is_args absent = true

@@ -1,5 +1,6 @@
 -- Objects and their properties derived again (13.2.5, 15.4).
-use Rattle.std.proofs.Common.{Bool, ap, ap₂, arith, false, if◌then◌else◌, refl, subst, sym, true, true≢false, ◌-◌, ◌∙◌, ◌≡◌}
+use Rattle.std.proofs.Common.{Bool, ap, ap₂, arith, false, refl, subst, sym, true, true≢false, ◌-◌, ◌∙◌, ◌≡◌}
+use Rattle.std.proofs.lemmas.Bool.{eqb-false}
 use Rattle.base_token.specs.Kinds.{assign_kind, async_kind, colon_kind, dot_dot_dot_kind, else_kind, get_kind, left_brace_kind, left_paren_kind, mul_kind, right_brace_kind, right_paren_kind, set_kind}
 use Rattle.base_token.specs.declared.place.Span.{Span}
 use Rattle.tree_spec.specs.Places.{no_place}
@@ -10,11 +11,11 @@ use Rattle.grammar_spec.specs.Tokens.Shape.{is_item_pat, is_prop, is_rest, level
 use Rattle.grammar_spec.specs.Functions.{MethodHead}
 use Rattle.grammar_spec.specs.Children.{Sorted, is_module_item}
 use Rattle.print_layout_spec.specs.Layout.{comma_line, is_bracketed_key, method_marks}
-use Rattle.print_layout_spec.specs.Looks.{blank, formats, gap}
+use Rattle.print_layout_spec.specs.Looks.{formats}
 use Rattle.print_layout_spec.specs.declared.look.Look.{Look}
 use Rattle.print_layout_spec.specs.declared.look.Stand.{Stand}
 use Rattle.print_layout_spec.specs.declared.look.Stand.TheVariants.{Alone, Body as BodyState}
-use Rattle.again_laws.specs.Tokens.Spacings.{Spacing, Spaced, Touching, blanked}
+use Rattle.again_laws.specs.Tokens.Spacings.{Spacing, Spaced, Touching}
 use Rattle.again_laws.specs.Tokens.Lexicon.{Lexicon}
 use Rattle.again_laws.specs.Tokens.Means.{Known}
 use Rattle.again_laws.specs.Tokens.Told.{Breaks, says}
@@ -29,7 +30,7 @@ use Rattle.again_laws.proofs.derived_rules.Lists.{comma_line_on, listed, sorted}
 use Rattle.again_laws.proofs.derived_rules.Names.{id_on}
 use Rattle.again_laws.proofs.derived_rules.Shapes.{alike, re_is_item_pat, re_is_rest}
 use Rattle.again_laws.proofs.derived_rules.Sound.{AllSound, Sound, expr, expr_low, plain_part}
-use Rattle.again_laws.proofs.derived_rules.Tokens.{behind_word, gapped, keyed, marked, skip, skip_back, skip_deeper, skip_line, took, worded}
+use Rattle.again_laws.proofs.derived_rules.Tokens.{behind_word, keyed, marked, skip, skip_back, skip_deeper, skip_line, took, worded, skip_either}
 use Rattle.again_laws.proofs.derived_rules.Functions.{same_functions, tail_on}
 use Rattle.again_laws.proofs.derived_rules.Keys.{key_on}
 use Rattle.again_laws.proofs.derived_rules.Patterns.{item_plain}
@@ -60,21 +61,7 @@ get_else e = omega arith
 set_else : set_kind ≡ else_kind → ⊥
 set_else e = omega arith
 
-mul_else : mul_kind ≡ else_kind → ⊥
-mul_else e = omega arith
-
-async_else : async_kind ≡ else_kind → ⊥
-async_else e = omega arith
-
-dots_else : dot_dot_dot_kind ≡ else_kind → ⊥
-dots_else e = omega arith
-
 module _ (look : Look) (x : Lexicon look.style) where
-  -- a blank, or where formatting writes one
-  either_blank : (v : Bool) (b : Spacing) (ts : Input) (K : Spacing → Input → Type 0) → says x.naming (if v then gap look else blank) b ts K → (d : Spacing) × K d ts
-  either_blank true b ts K q = (gapped (formats look) b, skip x.naming (formats look) b ts K q)
-  either_blank false b ts K q = (blanked b, q)
-
   pub property_on : (s : Span) (k e : Tree) → KeyPart look x.naming k → Sound look x.naming Alone e → (st : Stand) → Sound look x.naming st (key_value_prop s k e)
   property_on s k e f g st c ts0 r0 h l b ts K q =
       let y = key_on look x k f c ts0 h.0 h.2 l b ts _ q in
@@ -107,7 +94,7 @@ module _ (look : Look) (x : Lexicon look.style) where
         known = y.known;
         broke = q.1.broke;
         tight = λ i. absurd (true≢false (sym i));
-        begins = λ e. absurd (dots_else (sym (marked look x dot_dot_dot_kind q.1) ∙ e));
+        begins = λ e. absurd (eqb-false dot_dot_dot_kind else_kind refl (sym (marked look x dot_dot_dot_kind q.1) ∙ e));
         again = λ g. let w = y.again (follow_on st (spread_element s e) Alone e r0 r0 y.m refl n g) in record {
           tree = spread_element (span (lo ts) y.m.last) w.tree;
           produced = (q.0, took look x c dot_dot_dot_kind q.1, expr_low look x.naming assignment_level Alone e (with_in c) q.0 y.m h.2.0 (omega arith) w, refl);
@@ -184,7 +171,7 @@ module _ (look : Look) (x : Lexicon look.style) where
   pub getter_on : (s : Span) (k : Tree) (p : Span) (ss : Trees) → KeyPart look x.naming k → AllSound look x.naming ss → (st : Stand) → Sound look x.naming st (getter_prop s k (block_stmt p ss))
   getter_on s k p ss f a st c ts0 r0 h l b ts K q =
       let d = in_body false false c in
-      let y = key_on look x k f c h.0 h.1 h.5 (x.later ts0 h.0 h.4.3 l) _ q.0 _ (either_blank (is_bracketed_key k) Touching q.0 _ q.2).1 in
+      let y = key_on look x k f c h.0 h.1 h.5 (x.later ts0 h.0 h.4.3 l) _ q.0 _ (skip_either look x.naming (is_bracketed_key k) Touching q.0 _ q.2).1 in
       let j = skip x.naming (formats look) _ _ _ y.more in
       let i = j.2 in
       let z = braced look x d true ss a h.3 h.8.0 r0 h.8.1 h.8.2 (x.later h.2 h.3 h.7.2 (x.later h.1 h.2 h.6.2 y.known)) _ i.0 K (record { lo = record { 0 = p.hi.0 - 1 }; hi = p.hi }) (skip x.naming (formats look) _ _ _ i.2) in record {
@@ -207,7 +194,7 @@ module _ (look : Look) (x : Lexicon look.style) where
   pub setter_on : (s : Span) (k e : Tree) (p : Span) (ss : Trees) → KeyPart look x.naming k → Sound look x.naming Alone e → AllSound look x.naming ss → (st : Stand) → Sound look x.naming st (setter_prop s k e (block_stmt p ss))
   setter_on s k e p ss f g a st c ts0 r0 h l b ts K q =
       let d = in_body false false c in
-      let y = key_on look x k f c h.0 h.1 h.6 (x.later ts0 h.0 h.5.3 l) _ q.0 _ (either_blank (is_bracketed_key k) Touching q.0 _ q.2).1 in
+      let y = key_on look x k f c h.0 h.1 h.6 (x.later ts0 h.0 h.5.3 l) _ q.0 _ (skip_either look x.naming (is_bracketed_key k) Touching q.0 _ q.2).1 in
       let j = skip x.naming (formats look) _ _ _ y.more in
       let n = item_plain true e h.8 in
       let v = plain_part look x.naming Alone e g n.0 (binding d) h.2 h.3 h.10 (x.later h.1 h.2 h.7.2 y.known) _ j.0 _ j.2 in
@@ -273,7 +260,7 @@ module _ (look : Look) (x : Lexicon look.style) where
     more = q.2;
     known = x.later h.0 r0 h.2.2 (subst (λ (i : Input). Known i.places) h.1 l);
     broke = λ e. q.1.broke;
-    first = λ f e. absurd (mul_else (sym (marked look x mul_kind q.1) ∙ e));
+    first = λ f e. absurd (eqb-false mul_kind else_kind refl (sym (marked look x mul_kind q.1) ∙ e));
     again = λ e. (ts, refl, took look x c mul_kind q.1);
   }
   marks_on false true c ts0 r0 h l b ts K q = record {
@@ -282,7 +269,7 @@ module _ (look : Look) (x : Lexicon look.style) where
     more = q.2;
     known = subst (λ (i : Input). Known i.places) h.2 (x.later ts0 h.0 h.1.0.3 l);
     broke = λ e. q.1.broke;
-    first = λ f e. absurd (async_else (sym (keyed look x async_kind q.1) ∙ e));
+    first = λ f e. absurd (eqb-false async_kind else_kind refl (sym (keyed look x async_kind q.1) ∙ e));
     again = λ e. (q.0, (worded look x c async_kind q.1, behind_word look x async_kind refl q.1 e), refl);
   }
   marks_on true true c ts0 r0 h l b ts K q = let i = q.2 in record {
@@ -291,7 +278,7 @@ module _ (look : Look) (x : Lexicon look.style) where
     more = i.2;
     known = x.later h.0 r0 h.2.2 (x.later ts0 h.0 h.1.0.3 l);
     broke = λ e. q.1.broke;
-    first = λ f e. absurd (async_else (sym (keyed look x async_kind q.1) ∙ e));
+    first = λ f e. absurd (eqb-false async_kind else_kind refl (sym (keyed look x async_kind q.1) ∙ e));
     again = λ e. (q.0, (worded look x c async_kind q.1, behind_word look x async_kind refl q.1 i.1.broke), took look x c mul_kind i.1);
   }
 

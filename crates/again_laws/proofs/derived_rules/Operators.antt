@@ -1,6 +1,6 @@
 -- Unary operators, updates and conditionals derived again (13.4, 13.5, 13.14).
 use Rattle.std.proofs.Common.{Bool, ap, ap₂, arith, false, if◌then◌else◌, not, refl, subst, sym, true, true≢false, ℕ, ◌&&◌, ◌==◌, ◌||◌, ◌∙◌, ◌≡◌, ◌≤◌}
-use Rattle.std.proofs.lemmas.Bool.{ne_eqb, or_right}
+use Rattle.std.proofs.lemmas.Bool.{ne_eqb, or_right, eqb-false}
 use Rattle.base_token.specs.Kinds.{await_kind, colon_kind, dot_kind, function_kind, question_mark_kind}
 use Rattle.base_token.specs.declared.place.Span.{Span}
 use Rattle.tree_spec.specs.Places.{no_place}
@@ -30,9 +30,6 @@ use Rattle.again_laws.proofs.derived_rules.Tokens.{before_held, keyed, marked, s
 
 update_sign : (op : ℕ) → is_update_op op ≡ true → (is_unary_op op || is_update_op op) ≡ true
 update_sign op h = or_right (is_unary_op op) (is_update_op op) h
-
-conditional_function : question_mark_kind ≡ function_kind → ⊥
-conditional_function e = omega arith
 
 -- behind a `?` that no point follows
 asked_calm : (m : Input) → kind m ≡ question_mark_kind → (kind2 m ≡ dot_kind → ⊥) → calm m ≡ true
@@ -123,7 +120,7 @@ module _ (look : Look) (x : Lexicon look.style) where
         known = v.known;
         broke = y.broke;
         tight = λ e. v.tight (tight_of d (above assignment_level (level d) (omega arith) h.8.0));
-        begins = before ts0 h.0 ts y.m r0 v.m (λ l. refl) (expr_begins look x.naming Alone a (assigning c) ts0 h.0 br ts _ (above coalesce_level (level a) (omega arith) h.4.0) y) (t ∙ sym h.5.0) (λ e. conditional_function (sym t ∙ e));
+        begins = before ts0 h.0 ts y.m r0 v.m (λ l. refl) (expr_begins look x.naming Alone a (assigning c) ts0 h.0 br ts _ (above coalesce_level (level a) (omega arith) h.4.0) y) (t ∙ sym h.5.0) (λ e. eqb-false question_mark_kind function_kind refl (sym t ∙ e));
         again = λ u.
             let p = z.again (follow_by Alone b h.2 z.m colon_kind (marked look x colon_kind n.1) refl) in
             let r = expr_low look x.naming assignment_level Alone b (with_in c) i.0 z.m h.6.0 (omega arith) p in

@@ -1,6 +1,7 @@
 -- Patterns derived again: they bind names, or assign to targets (13.15.5, 14.3.3).
 use Rattle.std.proofs.Common.{Bool, ap, ap₂, arith, codes, false, inl, not, refl, subst, sym, true, true≢false, ◌&&◌, ◌∙◌, ◌≡◌}
-use Rattle.std.proofs.lemmas.Bool.{and_parts}
+use Rattle.std.proofs.lemmas.Bool.{and_parts, eqb-false}
+use Rattle.base_proofs.proofs.Bools.{not_and_false}
 use Rattle.base_token.specs.Kinds.{assign_kind, colon_kind, dot_dot_dot_kind, else_kind, left_brace_kind, left_bracket_kind, right_brace_kind, right_bracket_kind}
 use Rattle.base_token.specs.declared.place.Span.{Span}
 use Rattle.tree_spec.specs.Places.{no_place}
@@ -30,10 +31,6 @@ use Rattle.again_laws.proofs.derived_rules.Sound.{AllSound, Sound, expr, expr_lo
 use Rattle.again_laws.proofs.derived_rules.Tokens.{marked, named, skip, took}
 use Rattle.again_laws.proofs.derived_rules.Keys.{key_on}
 
-and_off : (b : Bool) → (b && false) ≡ true → ⊥
-and_off true h = true≢false (sym h)
-and_off false h = true≢false (sym h)
-
 -- what is no declaration and no statement
 abbrev pub Plainly : Tree → Type 0
 Plainly t = (is_part t ≡ true) × (is_module_item t ≡ false)
@@ -43,7 +40,7 @@ place_plain b (binding_ident s i) h = (refl, refl)
 place_plain b (array_pat s xs) h = (refl, refl)
 place_plain b (object_pat s ps) h = (refl, refl)
 place_plain b (expr_pat e) h = (refl, refl)
-place_plain b _ h = absurd (and_off (not b) h)
+place_plain b _ h = absurd (not_and_false (not b) h)
 
 pub item_plain : (b : Bool) (t : Tree) → is_item_pat b t ≡ true → Plainly t
 item_plain b (assign_pat s p e) h = (refl, refl)
@@ -52,7 +49,7 @@ item_plain b (binding_ident s i) h = place_plain b (binding_ident s i) h
 item_plain b (array_pat s xs) h = place_plain b (array_pat s xs) h
 item_plain b (object_pat s ps) h = place_plain b (object_pat s ps) h
 item_plain b (expr_pat e) h = place_plain b (expr_pat e) h
-item_plain b _ h = absurd (and_off (not b) h)
+item_plain b _ h = absurd (not_and_false (not b) h)
 
 prop_plain : (b : Bool) (t : Tree) → is_pattern_prop t ≡ true → Plainly t
 prop_plain b (key_value_pat_prop s k v) h = (refl, refl)
@@ -182,9 +179,6 @@ module _ (look : Look) (x : Lexicon look.style) where
         };
       }
 
-  dots_else : dot_dot_dot_kind ≡ else_kind → ⊥
-  dots_else e = omega arith
-
   pub rest_on : (s d : Span) (p : Tree) → Sound look x.naming Alone p → (st : Stand) → Sound look x.naming st (rest_pat s d p)
   rest_on s d p f st c ts0 r0 h k b ts K q =
       let i = place_plain c.binds p h.3 in
@@ -195,7 +189,7 @@ module _ (look : Look) (x : Lexicon look.style) where
         known = z.known;
         broke = q.1.broke;
         tight = λ e. absurd (true≢false (sym e));
-        begins = λ e. absurd (dots_else (sym (marked look x dot_dot_dot_kind q.1) ∙ e));
+        begins = λ e. absurd (eqb-false dot_dot_dot_kind else_kind refl (sym (marked look x dot_dot_dot_kind q.1) ∙ e));
         again = λ g. let w = z.again (passed p r0 z.m i.1 (g.quiet refl)) in record {
           tree = rest_pat (span (lo ts) z.m.last) (dots_at (lo ts)) w.tree;
           produced = (q.0, took look x c dot_dot_dot_kind q.1, refl, alike (is_place c.binds) (re_is_place c.binds) (leaves_at look x.naming) Plain p w.tree w.same ∙ h.3, w.produced, refl);

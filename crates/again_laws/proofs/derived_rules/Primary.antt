@@ -25,7 +25,7 @@ use Rattle.again_laws.proofs.derived_rules.Begins.{led, same_start}
 use Rattle.again_laws.proofs.derived_rules.Follow.{follow_by}
 use Rattle.again_laws.proofs.derived_rules.Sound.{Out, Sound, expr, expr_low, full}
 use Rattle.again_laws.proofs.derived_rules.Tokens.{keyed, marked, named, skip_mark, took, worded}
-use Rattle.again_laws.proofs.derived_rules.Heads.{never_pointed}
+use Rattle.again_laws.proofs.derived_rules.CallHeads.{never_pointed}
 
 module _ (look : Look) (x : Lexicon look.style) where
   pub name_on : (s : Span) (n : List ℕ) (st : Stand) → Sound look x.naming st (ident s n)

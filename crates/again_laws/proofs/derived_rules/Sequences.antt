@@ -1,5 +1,6 @@
 -- Elements, arrays and sequences derived again (13.2.4, 13.16).
 use Rattle.std.proofs.Common.{None, Option, Some, ap, ap₂, arith, refl, sym, true, true≢false, ◌∙◌, ◌≡◌}
+use Rattle.std.proofs.lemmas.Bool.{eqb-false}
 use Rattle.base_token.specs.Kinds.{dot_dot_dot_kind, else_kind, left_bracket_kind, right_bracket_kind}
 use Rattle.base_token.specs.declared.place.Span.{Span}
 use Rattle.tree_spec.specs.Places.{no_place}
@@ -30,9 +31,6 @@ use Rattle.again_laws.proofs.derived_rules.Sound.{Again, AllSound, Sound, expr, 
 use Rattle.again_laws.proofs.derived_rules.Tokens.{marked, skip_back, skip_deeper, skip_line, took}
 use Rattle.again_laws.proofs.derived_rules.Calls.{element_plain}
 
-dots_no_else : dot_dot_dot_kind ≡ else_kind → ⊥
-dots_no_else e = omega arith
-
 module _ (look : Look) (x : Lexicon look.style) where
   pub element_on : (s : Span) (d : Option Span) (e : Tree) → Sound look x.naming Alone e → (st : Stand) → Sound look x.naming st (expr_or_spread s d e)
   element_on s None e f st c ts0 r0 h k b ts K q =
@@ -60,7 +58,7 @@ module _ (look : Look) (x : Lexicon look.style) where
         known = y.known;
         broke = q.1.broke;
         tight = λ i. absurd (true≢false (sym i));
-        begins = λ e. absurd (dots_no_else (sym (marked look x dot_dot_dot_kind q.1) ∙ e));
+        begins = λ e. absurd (eqb-false dot_dot_dot_kind else_kind refl (sym (marked look x dot_dot_dot_kind q.1) ∙ e));
         again = λ g. let w = y.again (follow_on st (expr_or_spread s (Some p) e) Alone e r0 r0 y.m refl (above assignment_level (level e) (omega arith) h.3.0) g) in record {
           tree = expr_or_spread (span (lo ts) y.m.last) (Some (first_span ts)) w.tree;
           produced = (q.0, took look x c dot_dot_dot_kind q.1, refl, expr_low look x.naming assignment_level Alone e (with_in c) q.0 y.m h.3.0 (omega arith) w, refl);

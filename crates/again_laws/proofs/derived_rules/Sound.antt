@@ -1,6 +1,6 @@
 -- The claim: the tokens that the layout of a tree says are derived again, by a tree that is this one but for places and spellings.
-use Rattle.std.proofs.Common.{Bool, arith, false, leb, nat_le, refl, subst, sym, true, true≢false, ℕ, ◌||◌, ◌≡◌, ◌≤◌}
-use Rattle.std.proofs.lemmas.Bool.{le-leb}
+use Rattle.std.proofs.Common.{Bool, arith, false, leb, nat_le, refl, subst, sym, true, ℕ, ◌||◌, ◌≡◌, ◌≤◌}
+use Rattle.std.proofs.lemmas.Bool.{le-leb, or_left}
 use Rattle.base_token.specs.declared.place.Span.{Span}
 use Rattle.tree_spec.specs.Tree.{Tree, Trees, expr_stmt, more, none}
 use Rattle.grammar_spec.specs.Tokens.Input.{Code, Input, assigning, unplaced}
@@ -27,12 +27,8 @@ use Rattle.again_laws.proofs.derived_rules.Levels.{level_head, level_low}
 abbrev pub is_tight : Tree → Bool
 is_tight t = nat_le 1 (level t) || (is_bound_name t || (is_ident t || (is_word_name t || is_private t)))
 
-first_of_two : (a b : Bool) → a ≡ true → (a || b) ≡ true
-first_of_two true b e = refl
-first_of_two false b e = absurd (true≢false (sym e))
-
 pub tight_of : (t : Tree) → 1 ≤ level t → is_tight t ≡ true
-tight_of t h = first_of_two (leb 1 (level t)) _ (le-leb 1 (level t) h)
+tight_of t h = or_left (leb 1 (level t)) _ (le-leb 1 (level t) h)
 
 -- a layout, and the semicolon that ends variables
 abbrev pub full : Look → Stand → Tree → Laid

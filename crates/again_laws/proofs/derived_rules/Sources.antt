@@ -1,6 +1,6 @@
 -- Names of exports, and the name of a module with its attributes, derived again (16.2).
-use Rattle.std.proofs.Common.{Bool, List, None, Option, Some, ap, ap₂, arith, chars, codes, false, if◌then◌else◌, inl, inr, not, refl, subst, sym, true, true≢false, ℕ, ◌&&◌, ◌∙◌, ◌≡◌, ◌⊎◌}
-use Rattle.base_token.specs.Kinds.{assert_kind, else_kind, str_kind, with_kind}
+use Rattle.std.proofs.Common.{Bool, List, None, Option, Some, ap, ap₂, chars, codes, false, if◌then◌else◌, inl, inr, not, refl, subst, sym, true, true≢false, ℕ, ◌&&◌, ◌∙◌, ◌≡◌, ◌⊎◌}
+use Rattle.base_token.specs.Kinds.{assert_kind, else_kind, with_kind}
 use Rattle.base_token.specs.Utf16.{utf16}
 use Rattle.base_token.specs.declared.place.Span.{Span}
 use Rattle.tree_spec.specs.Places.{no_place}
@@ -11,6 +11,7 @@ use Rattle.grammar_spec.specs.Tokens.Shape.{are_attributes, export_name, is_abse
 use Rattle.grammar_spec.specs.Grammar.{Produces}
 use Rattle.grammar_spec.specs.Modules.{Attributes, ExportName, Source}
 use Rattle.grammar_spec.specs.Children.{By, Ends, Sorted, is_module_item, child}
+use Rattle.grammar_laws.proofs.Covers.{by_no}
 use Rattle.print_spelling.specs.String.Names.{is_quoted_key}
 use Rattle.print_layout_spec.specs.Layout.{attributes, laid, word}
 use Rattle.print_layout_spec.specs.Literals.{key_bytes}
@@ -27,15 +28,12 @@ use Rattle.again_laws.specs.Derived.Redo.{Leaves, Mode, Plain, Redone, redo, red
 use Rattle.again_laws.specs.Derived.Written.{written_key}
 use Rattle.again_laws.proofs.derived_rules.Naming.{leaves_at}
 use Rattle.again_laws.proofs.derived_rules.Begins.{first_token, is_loose, is_part, is_weak}
-use Rattle.again_laws.proofs.derived_rules.Ends.{absent_same, ended_known, quiet_at, there, unabsent}
+use Rattle.again_laws.proofs.derived_rules.Ends.{absent_same, ended_known, quiet_at, there}
 use Rattle.again_laws.proofs.derived_rules.Follow.{needs_calm}
 use Rattle.again_laws.proofs.derived_rules.KeyParts.{KeyPart}
 use Rattle.again_laws.proofs.derived_rules.Shapes.{alike, re_is_absent}
 use Rattle.again_laws.proofs.derived_rules.Sound.{Sound, is_tight, plain_part}
 use Rattle.again_laws.proofs.derived_rules.Tokens.{before_held, keyed, blank_broke, ended, gapped, semi_of, skip, spelled_word, worded}
-
-string_else : str_kind ≡ else_kind → ⊥
-string_else e = omega arith
 
 string_key : (t : Tree) → is_string t ≡ true → (is_part t ≡ true) × (is_tight t ≡ true) × (needs_calm Key t ≡ false) × (is_module_item t ≡ false) × (export_name t ≡ None)
 string_key (str_lit s u w) h = (refl, refl, refl, refl, refl)
@@ -200,7 +198,7 @@ module _ (look : Look) (x : Lexicon look.style) where
         m = o.1;
         more = o.3;
         known = ended_known look x c plain_end h.0 r0 h.2 y.known;
-        again = (u.tree, unabsent (is_absent u.tree) _ _ (alike is_absent re_is_absent (leaves_at look x.naming) Plain t u.tree u.same ∙ a) (y.m, (w.m, p.1, w.again, attributes_again look x.naming t u.tree u.same ∙ p.3, u.produced), ended look x c plain_end o.2), u.same);
+        again = (u.tree, by_no (is_absent u.tree) _ _ (alike is_absent re_is_absent (leaves_at look x.naming) Plain t u.tree u.same ∙ a) (y.m, (w.m, p.1, w.again, attributes_again look x.naming t u.tree u.same ∙ p.3, u.produced), ended look x c plain_end o.2), u.same);
       }
     where
       either : (v : Bool) (b : Spacing) (ts : Input) (J : Spacing → Input → Type 0) → says x.naming (word (if v then codes "assert" else codes "with")) b ts J → says x.naming (if v then word (codes "assert") else word (codes "with")) b ts J

@@ -1,5 +1,6 @@
 -- Specifiers of imports and exports derived again, and lists of them in braces (16.2.2, 16.2.3).
-use Rattle.std.proofs.Common.{Bool, ap, ap₂, arith, codes, false, if◌then◌else◌, inl, inr, refl, subst, sym, true, true≢false, ℕ, ◌∙◌, ◌≡◌, ◌⊎◌}
+use Rattle.std.proofs.Common.{Bool, ap, ap₂, codes, false, if◌then◌else◌, inl, inr, refl, subst, sym, true, true≢false, ℕ, ◌∙◌, ◌≡◌, ◌⊎◌}
+use Rattle.std.proofs.lemmas.Bool.{eqb-false}
 use Rattle.base_token.specs.Kinds.{as_kind, comma_kind, else_kind, mul_kind}
 use Rattle.base_token.specs.declared.place.Span.{Span}
 use Rattle.tree_spec.specs.Places.{no_place}
@@ -9,8 +10,9 @@ use Rattle.grammar_spec.specs.Tokens.Shape.{export_name, is_absent, is_named_exp
 use Rattle.grammar_spec.specs.Grammar.{Produces, children}
 use Rattle.grammar_spec.specs.Modules.{ExportName}
 use Rattle.grammar_spec.specs.Children.{By, Listed, Sorted, is_ident, is_module_item, child}
+use Rattle.grammar_laws.proofs.Covers.{by_no}
 use Rattle.print_layout_spec.specs.Layout.{comma, laid, named_items, separated, word}
-use Rattle.print_layout_spec.specs.Looks.{Laid, blank, end, formats, start, when, ◌·◌}
+use Rattle.print_layout_spec.specs.Looks.{Laid, blank, formats, when, ◌·◌}
 use Rattle.print_layout_spec.specs.declared.look.Look.{Look}
 use Rattle.print_layout_spec.specs.declared.look.Stand.{Stand}
 use Rattle.print_layout_spec.specs.declared.look.Stand.TheVariants.{Alone, Key}
@@ -21,16 +23,13 @@ use Rattle.again_laws.specs.Tokens.Told.{says}
 use Rattle.again_laws.specs.Derived.Redo.{Leaves, Mode, Plain, redo}
 use Rattle.again_laws.proofs.derived_rules.Naming.{leaves_at}
 use Rattle.again_laws.proofs.derived_rules.Begins.{is_part}
-use Rattle.again_laws.proofs.derived_rules.Ends.{unabsent}
 use Rattle.again_laws.proofs.derived_rules.KeyParts.{KeyPart}
 use Rattle.again_laws.proofs.derived_rules.Names.{id_on}
 use Rattle.again_laws.proofs.derived_rules.Shapes.{alike, re_is_absent}
 use Rattle.again_laws.proofs.derived_rules.Sound.{Sound}
 use Rattle.again_laws.proofs.derived_rules.Tokens.{marked, says_map, skip, took, worded}
 use Rattle.again_laws.proofs.derived_rules.Sources.{export_name_on}
-
-mul_else : mul_kind ≡ else_kind → ⊥
-mul_else e = omega arith
+use Rattle.again_laws.proofs.Layouts.{laid_import, laid_export}
 
 pub re_is_named_import : (l : Leaves) (m : Mode) (t : Tree) → is_named_import (redo l m t) ≡ is_named_import t
 re_is_named_import l m (import_named_specifier s a b) = refl
@@ -47,14 +46,6 @@ named_import_part _ h = absurd (true≢false (sym h))
 pub named_export_part : (t : Tree) → is_named_export t ≡ true → (is_part t ≡ true) × (is_module_item t ≡ false)
 named_export_part (export_named_specifier s a b) h = (refl, refl)
 named_export_part _ h = absurd (true≢false (sym h))
-
-laid_import : (look : Look) (st : Stand) (s : Span) (l i : Tree) → is_absent i ≡ false → laid look st (import_named_specifier s l i) ≡ (start s · laid look Key i · blank · word (codes "as") · blank · laid look Alone l · end s)
-laid_import look st s l absent e = absurd (true≢false e)
-laid_import look st s l _ e = refl
-
-laid_export : (look : Look) (st : Stand) (s : Span) (o e : Tree) → is_absent e ≡ false → laid look st (export_named_specifier s o e) ≡ (start s · laid look Key o · blank · word (codes "as") · blank · laid look Key e · end s)
-laid_export look st s o absent e = absurd (true≢false e)
-laid_export look st s o _ e = refl
 
 -- each tree of a list is of a sort
 abbrev pub EachIs : (Tree → Bool) → Trees → Type 0
@@ -109,7 +100,7 @@ module _ (look : Look) (x : Lexicon look.style) where
         begins = y.first;
         again = λ g. record {
           tree = import_named_specifier (span (lo ts) z.m.last) z.again.0 y.again.0;
-          produced = (unabsent (is_absent y.again.0) _ _ (alike is_absent re_is_absent (leaves_at look x.naming) Plain i y.again.0 y.again.2 ∙ e) (y.m, o.0, y.again.1, worded look x c as_kind o.1, z.again.1), refl);
+          produced = (by_no (is_absent y.again.0) _ _ (alike is_absent re_is_absent (leaves_at look x.naming) Plain i y.again.0 y.again.2 ∙ e) (y.m, o.0, y.again.1, worded look x c as_kind o.1, z.again.1), refl);
           directive = refl;
           quoted = λ p q. refl;
           same = record { so = λ n. ap₂ (λ (t u : Tree). import_named_specifier no_place t u) (z.again.2.so Plain) (y.again.2.so Plain) };
@@ -145,7 +136,7 @@ module _ (look : Look) (x : Lexicon look.style) where
         known = z.known;
         broke = q.1.broke;
         tight = λ e. absurd (true≢false (sym e));
-        begins = λ e. absurd (mul_else (sym (marked look x mul_kind q.1) ∙ e));
+        begins = λ e. absurd (eqb-false mul_kind else_kind refl (sym (marked look x mul_kind q.1) ∙ e));
         again = λ g. record {
           tree = import_star_as_specifier (span (lo ts) z.m.last) z.again.0;
           produced = (q.0, i.0, took look x c mul_kind q.1, worded look x c as_kind i.1, z.again.1, refl);
@@ -189,7 +180,7 @@ module _ (look : Look) (x : Lexicon look.style) where
         begins = y.first;
         again = λ l. record {
           tree = export_named_specifier (span (lo ts) z.m.last) y.again.0 z.again.0;
-          produced = (y.m, y.again.1, unabsent (is_absent z.again.0) _ _ (alike is_absent re_is_absent (leaves_at look x.naming) Plain e z.again.0 z.again.2 ∙ a) (j.0, worded look x c as_kind j.1, z.again.1), refl);
+          produced = (y.m, y.again.1, by_no (is_absent z.again.0) _ _ (alike is_absent re_is_absent (leaves_at look x.naming) Plain e z.again.0 z.again.2 ∙ a) (j.0, worded look x c as_kind j.1, z.again.1), refl);
           directive = refl;
           quoted = λ p q. refl;
           same = record { so = λ n. ap₂ (λ (t u : Tree). export_named_specifier no_place t u) (y.again.2.so Plain) (z.again.2.so Plain) };
@@ -206,7 +197,7 @@ module _ (look : Look) (x : Lexicon look.style) where
         known = z.known;
         broke = q.1.broke;
         tight = λ e. absurd (true≢false (sym e));
-        begins = λ e. absurd (mul_else (sym (marked look x mul_kind q.1) ∙ e));
+        begins = λ e. absurd (eqb-false mul_kind else_kind refl (sym (marked look x mul_kind q.1) ∙ e));
         again = λ g. record {
           tree = export_namespace_specifier (span (lo ts) z.m.last) z.again.0;
           produced = (q.0, i.0, took look x c mul_kind q.1, worded look x c as_kind i.1, z.again.1, refl);

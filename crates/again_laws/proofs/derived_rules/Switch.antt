@@ -10,6 +10,7 @@ use Rattle.grammar_spec.specs.Tokens.Shape.{is_absent, is_case, is_default_case,
 use Rattle.grammar_spec.specs.Grammar.{Produces, children}
 use Rattle.grammar_spec.specs.Children.{By, Expr, Items, Sorted, child}
 use Rattle.grammar_spec.specs.Statements.{Cases, ClosesCase}
+use Rattle.grammar_laws.proofs.Covers.{by_no}
 use Rattle.print_gaps.specs.Edges.{is_there, starts_with_word}
 use Rattle.print_layout_spec.specs.Layout.{indented_or_line, is_empty as is_empty_list, laid, rows, word}
 use Rattle.print_layout_spec.specs.Looks.{back, brace, deeper, formats, gap_or, last, line, text, when, ◌·◌}
@@ -24,7 +25,7 @@ use Rattle.again_laws.specs.Tokens.Told.{says}
 use Rattle.again_laws.specs.Derived.Redo.{AllRedone, Leaves, Mode, Plain, Redone, redo}
 use Rattle.again_laws.proofs.derived_rules.Naming.{leaves_at}
 use Rattle.again_laws.proofs.derived_rules.Bodies.{item_flat, rows_on}
-use Rattle.again_laws.proofs.derived_rules.Ends.{absent_same, there, unabsent}
+use Rattle.again_laws.proofs.derived_rules.Ends.{absent_same, there}
 use Rattle.again_laws.proofs.derived_rules.Follow.{follow_by}
 use Rattle.again_laws.proofs.derived_rules.Lists.{more_same, none_same}
 use Rattle.again_laws.proofs.derived_rules.Shapes.{alike, re_is_absent, re_is_item}
@@ -94,7 +95,7 @@ module _ (look : Look) (x : Lexicon look.style) where
         more = o.2;
         known = x.later m0 r0 e.2 y.known;
         colon = took look x c colon_kind o.1;
-        again = (w.tree, unabsent (is_absent w.tree) _ _ (alike is_absent re_is_absent (leaves_at look x.naming) Plain t w.tree w.same ∙ a) (q.0, worded look x c case_kind q.1, expr_low look x.naming expression_level Alone t c q.0 y.m h.2.0 (omega arith) w), w.same);
+        again = (w.tree, by_no (is_absent w.tree) _ _ (alike is_absent re_is_absent (leaves_at look x.naming) Plain t w.tree w.same ∙ a) (q.0, worded look x c case_kind q.1, expr_low look x.naming expression_level Alone t c q.0 y.m h.2.0 (omega arith) w), w.same);
       }
 
   record Case_on (t : Tree) (c : Code) (r0 : Input) (ts : Input) (K : Spacing → Input → Type 0) : Type 0 where

@@ -32,7 +32,7 @@ use Rattle.again_laws.proofs.derived_rules.Lists.{more_same}
 use Rattle.again_laws.proofs.derived_rules.Shapes.{alike, re_is_chain}
 use Rattle.again_laws.proofs.derived_rules.Sound.{AllSound, Sound, expr, expr_begins, expr_head, expr_low}
 use Rattle.again_laws.proofs.derived_rules.Tokens.{marked, took}
-use Rattle.again_laws.proofs.derived_rules.Heads.{at_least_new, follow_chain, over_call}
+use Rattle.again_laws.proofs.derived_rules.CallHeads.{follow_chain, over_call}
 
 stand_tagged : (s : Stand) → is_tagged_stand s ≡ is_tagged (quasi_mode (mode_of s))
 stand_tagged Tagged = refl
@@ -212,7 +212,7 @@ module _ (look : Look) (x : Lexicon look.style) where
         broke = y.broke;
         tight = λ e. refl;
         begins = before ts0 h.0 ts y.m r0 z.m (λ l. absurd (firm t (over_call (level t) h.2.0) l)) (expr_begins look x.naming Head t (assigning c) ts0 h.0 b ts _ (above call_level (level t) (omega arith) h.2.0) y) (z.lead ∙ sym h.3.1.0) (λ e. quote_function (sym z.lead ∙ e));
-        again = λ g. let w = y.again (follow_chain t h.0 y.m (at_least_new (level t) h.2.0) (λ e. quote_else (sym z.lead ∙ e))) in record {
+        again = λ g. let w = y.again (follow_chain t h.0 y.m (over_call (level t) h.2.0) (λ e. quote_else (sym z.lead ∙ e))) in record {
           tree = tagged_tpl (span (lo ts) z.m.last) w.tree (tpl (span (lo y.m) z.m.last) z.us z.vs);
           produced = (y.m, alike is_chain re_is_chain (leaves_at look x.naming) Headed t w.tree w.same ∙ h.1, expr_head look x.naming call_level t c ts y.m h.2.0 w, z.produced (span (lo y.m) z.m.last) refl, refl);
           directive = refl;

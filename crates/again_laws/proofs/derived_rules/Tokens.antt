@@ -1,5 +1,6 @@
 -- The tokens that a layout says, one at a time: what the grammar takes, and pieces that say no token.
-use Rattle.std.proofs.Common.{Bool, List, None, [], ap, length, arith, codes, false, inl, inr, refl, subst, sym, true, true≢false, ℕ, ◌&&◌, ◌||◌, ◌∙◌, ◌∷◌, ◌≡◌, ◌⊎◌}
+use Rattle.std.proofs.Common.{Bool, List, None, [], ap, length, arith, codes, false, inl, inr, refl, subst, sym, true, true≢false, ℕ, ◌&&◌, ◌||◌, ◌∙◌, ◌∷◌, ◌≡◌, ◌⊎◌, if◌then◌else◌}
+use Rattle.std.proofs.lemmas.Bool.{or_left, or_right}
 use Rattle.base_token.specs.Kinds.{name_kind, semicolon_kind}
 use Rattle.base_token.specs.declared.context.Context.{Context}
 use Rattle.base_token.specs.declared.place.BytePos.{BytePos}
@@ -9,7 +10,7 @@ use Rattle.grammar_spec.specs.Tokens.Operators.{pauses}
 use Rattle.grammar_spec.specs.Children.{Ends}
 use Rattle.print_pages_spec.specs.Pieces.{Back, Blank, Brace, Commit, Deeper, Line, Mark, Piece, Semicolon, Text}
 use Rattle.print_layout_spec.specs.Literals.{name_bytes}
-use Rattle.print_layout_spec.specs.Looks.{Laid, Meaning, blank, both, hashbang_comment, line_always, meant, named as named_piece, nothing, one, refused, regular_expression, template_characters, template_end, touching, when}
+use Rattle.print_layout_spec.specs.Looks.{Laid, Meaning, blank, both, hashbang_comment, line_always, meant, named as named_piece, nothing, one, refused, regular_expression, template_characters, template_end, touching, when, gap, formats}
 use Rattle.print_layout_spec.specs.declared.look.Look.{Look}
 use Rattle.again_laws.specs.Tokens.Spacings.{Broken, Spacing, Spaced, Touching, blanked, is_broken}
 use Rattle.again_laws.specs.Tokens.Ties.{is_held, is_tied, is_tying}
@@ -37,6 +38,11 @@ blank_broke false a = refl
 pub skip : (n : Naming) (v : Bool) (a : Spacing) (ts : Input) (K : Spacing → Input → Type 0) → says n (when v blank) a ts K → K (gapped v a) ts
 skip n true a ts K h = h
 skip n false a ts K h = h
+
+-- a blank, or where formatting writes one
+pub skip_either : (look : Look) (n : Naming) (v : Bool) (a : Spacing) (ts : Input) (K : Spacing → Input → Type 0) → says n (if v then gap look else blank) a ts K → (d : Spacing) × K d ts
+skip_either look n true a ts K h = (gapped (formats look) a, skip n (formats look) a ts K h)
+skip_either look n false a ts K h = (blanked a, h)
 
 pub skip_mark : (n : Naming) (v : Bool) (pos : BytePos) (a : Spacing) (ts : Input) (K : Spacing → Input → Type 0) → says n (when v (one (Mark pos))) a ts K → K a ts
 skip_mark n true pos a ts K h = h
@@ -115,14 +121,6 @@ pub unbarred : (z : Context) (e : Bool) (k : ℕ) → e ≡ false → (e && (no_
 unbarred z true k h = absurd (true≢false h)
 unbarred z false k h = refl
 
-first_of_two : (a b : Bool) → a ≡ true → (a || b) ≡ true
-first_of_two true b e = refl
-first_of_two false b e = absurd (true≢false (sym e))
-
-second_of_two : (a b : Bool) → b ≡ true → (a || b) ≡ true
-second_of_two true b e = refl
-second_of_two false b e = e
-
 module _ (look : Look) (x : Lexicon look.style) where
   -- a punctuator
   pub marked : (k : ℕ) {a : Spacing} {ts m : Input} → Told x.naming Div (mark_text k) a ts m → kind ts ≡ k
@@ -140,10 +138,10 @@ module _ (look : Look) (x : Lexicon look.style) where
 
   -- Behind a word that ties no line ends but where one was written, nor before a token that is held.
   pub behind_word : (k : ℕ) → is_tying k ≡ true → {a : Spacing} {ts m : Input} → Told x.naming Div (word_text k) a ts m → {v : Bool} → (is_tied (x.naming.behind (length m.places)) (kind m) ≡ true → brk m ≡ v) → brk m ≡ v
-  behind_word k i t b = b (first_of_two _ _ (ap is_tying (t.behind ∙ keyed k t) ∙ i))
+  behind_word k i t b = b (or_left _ _ (ap is_tying (t.behind ∙ keyed k t) ∙ i))
 
   pub before_held : {a : Spacing} {ts m : Input} {own : List ℕ} → Told x.naming Div own a ts m → is_held (kind ts) ≡ true → brk ts ≡ is_broken a
-  before_held t i = t.broke (second_of_two _ _ i)
+  before_held t i = t.broke (or_right _ _ i)
 
   -- any word
   pub spelled_word : (n : List ℕ) (ts0 r0 ts m : Input) {a : Spacing} (c d : Code) → TakesAnyWord c n ts0 r0 → Known ts0.places → Told x.naming Div (name_bytes look.style n) a ts m → (kind ts ≡ kind ts0) × TakesAnyWord (unplaced d) n ts m

@@ -3,12 +3,13 @@ use Rattle.std.proofs.Common.{Bool, ap, ap₂, arith, codes, false, inl, inr, no
 use Rattle.base_token.specs.Kinds.{catch_kind, else_kind, finally_kind, left_paren_kind, right_paren_kind, try_kind}
 use Rattle.base_token.specs.declared.place.Span.{Span}
 use Rattle.tree_spec.specs.Places.{no_place}
-use Rattle.tree_spec.specs.Tree.{Tree, absent, array_pat, binding_ident, block_stmt, catch_clause, object_pat, try_stmt}
+use Rattle.tree_spec.specs.Tree.{Tree, absent, block_stmt, catch_clause, try_stmt}
 use Rattle.grammar_spec.specs.Tokens.Input.{Code, Input, Takes, TakesWord, binding, kind, lo, span, unplaced}
 use Rattle.grammar_spec.specs.Tokens.Shape.{is_absent, is_binding, is_block, is_catch}
 use Rattle.grammar_spec.specs.Grammar.{Produces}
-use Rattle.grammar_spec.specs.Children.{By, Maybe, Sorted, is_module_item, child}
+use Rattle.grammar_spec.specs.Children.{By, Maybe, Sorted, child}
 use Rattle.grammar_spec.specs.Statements.{Catch}
+use Rattle.grammar_laws.proofs.Covers.{by_no}
 use Rattle.print_gaps.specs.Edges.{is_there}
 use Rattle.print_layout_spec.specs.Layout.{in_parens, laid, word}
 use Rattle.print_layout_spec.specs.Looks.{Laid, formats, gap, when, ◌·◌}
@@ -24,11 +25,12 @@ use Rattle.again_laws.specs.Derived.Redo.{Leaves, Mode, Plain, Redone, redo}
 use Rattle.again_laws.proofs.derived_rules.Naming.{leaves_at}
 use Rattle.again_laws.proofs.derived_rules.Begins.{is_part}
 use Rattle.again_laws.proofs.derived_rules.Bodies.{follow_closed}
-use Rattle.again_laws.proofs.derived_rules.Ends.{absent_same, there, unabsent}
+use Rattle.again_laws.proofs.derived_rules.Ends.{absent_same, there}
 use Rattle.again_laws.proofs.derived_rules.Follow.{closed_calm, is_closed}
 use Rattle.again_laws.proofs.derived_rules.Shapes.{alike, re_is_absent, re_is_binding, re_is_block}
 use Rattle.again_laws.proofs.derived_rules.Sound.{Sound, plain_part}
 use Rattle.again_laws.proofs.derived_rules.Tokens.{gapped, keyed, marked, skip, took, worded}
+use Rattle.again_laws.proofs.derived_rules.Variables.{binding_plain}
 
 try_else : try_kind ≡ else_kind → ⊥
 try_else e = omega arith
@@ -43,12 +45,6 @@ re_is_catch l m _ = refl
 block_part : (t : Tree) → is_block t ≡ true → (is_part t ≡ true) × (is_closed t ≡ true)
 block_part (block_stmt s ss) h = (refl, refl)
 block_part _ h = absurd (true≢false (sym h))
-
-binding_part : (t : Tree) → is_binding t ≡ true → (is_part t ≡ true) × (is_module_item t ≡ false)
-binding_part (binding_ident s i) h = (refl, refl)
-binding_part (array_pat s xs) h = (refl, refl)
-binding_part (object_pat s ps) h = (refl, refl)
-binding_part _ h = absurd (true≢false (sym h))
 
 neither : (a b u v : Bool) → u ≡ a → v ≡ b → (a && b) ≡ false → (u && v) ≡ false
 neither a b u v e f h = subst (λ (x : Bool). (x && v) ≡ false) (sym e) (subst (λ (x : Bool). (a && x) ≡ false) (sym f) h)
@@ -108,7 +104,7 @@ module _ (look : Look) (x : Lexicon look.style) where
         );
       }
       by false a e i =
-          let j = binding_part p e.3 in
+          let j = binding_plain p e.3 in
           let y = plain_part look x.naming Alone p f j.0 (binding c) e.0 e.1 e.4 (x.later h.0 e.0 e.2.2 (x.later ts0 h.0 h.2.3 k)) Touching i.0 _ i.2 in
           let o = y.more in
           let z = blocked_on b g c h.1 r0 h.4 (x.later e.1 h.1 e.5.2 y.known) _ o.0 K (skip x.naming (formats look) Touching o.0 _ o.2) in record {
@@ -119,7 +115,7 @@ module _ (look : Look) (x : Lexicon look.style) where
             lead = keyed look x catch_kind q.1;
             again = λ l. let w = z.again l in let v = y.again (record { quiet = λ n. closed_calm y.m right_paren_kind (marked look x right_paren_kind o.1) refl; other = λ n. absurd (true≢false (sym n ∙ j.1)) }) in (
               catch_clause (span (lo ts) z.m.last) v.tree w.0,
-              (refl, (q.0, o.0, worded look x c catch_kind q.1, unabsent (is_absent v.tree) _ _ (alike is_absent re_is_absent (leaves_at look x.naming) Plain p v.tree v.same ∙ a) (i.0, y.m, took look x c left_paren_kind i.1, alike is_binding re_is_binding (leaves_at look x.naming) Plain p v.tree v.same ∙ e.3, v.produced, took look x c right_paren_kind o.1), w.1, refl)),
+              (refl, (q.0, o.0, worded look x c catch_kind q.1, by_no (is_absent v.tree) _ _ (alike is_absent re_is_absent (leaves_at look x.naming) Plain p v.tree v.same ∙ a) (i.0, y.m, took look x c left_paren_kind i.1, alike is_binding re_is_binding (leaves_at look x.naming) Plain p v.tree v.same ∙ e.3, v.produced, took look x c right_paren_kind o.1), w.1, refl)),
               record { so = λ n. ap₂ (λ (t u : Tree). catch_clause no_place t u) (v.same.so Plain) (w.2.so Plain) },
             );
           }
@@ -145,7 +141,7 @@ module _ (look : Look) (x : Lexicon look.style) where
         more = z.more;
         known = z.known;
         lead = inl (e, z.lead);
-        again = λ g. let w = z.again g in (w.0, unabsent (is_absent w.0) _ _ (alike is_absent re_is_absent (leaves_at look x.naming) Plain t w.0 w.2 ∙ e) w.1, w.2);
+        again = λ g. let w = z.again g in (w.0, by_no (is_absent w.0) _ _ (alike is_absent re_is_absent (leaves_at look x.naming) Plain t w.0 w.2 ∙ e) w.1, w.2);
       }
 
   record Finally (f : Tree) (c : Code) (o0 r0 : Input) (ts : Input) (K : Spacing → Input → Type 0) : Type 0 where
@@ -178,7 +174,7 @@ module _ (look : Look) (x : Lexicon look.style) where
         known = z.known;
         first = λ g j. absurd (finally_else (sym n ∙ j));
         lead = λ g j. finally_else (sym n ∙ j);
-        again = λ g. let w = z.again g in (w.0, unabsent (is_absent w.0) _ _ (alike is_absent re_is_absent (leaves_at look x.naming) Plain t w.0 w.2 ∙ e) (i.0, worded look x c finally_kind i.1, w.1), w.2);
+        again = λ g. let w = z.again g in (w.0, by_no (is_absent w.0) _ _ (alike is_absent re_is_absent (leaves_at look x.naming) Plain t w.0 w.2 ∙ e) (i.0, worded look x c finally_kind i.1, w.1), w.2);
       }
 
   abbrev finally_laid : Tree → Laid

@@ -1,5 +1,5 @@
 -- Variables derived again, with what ends them and without (14.3).
-use Rattle.std.proofs.Common.{Bool, ap, ap₂, arith, codes, eqb, false, if◌then◌else◌, not, refl, subst, sym, true, true≢false, ℕ, ⊎_elim, ◌==◌, ◌∙◌, ◌≡◌}
+use Rattle.std.proofs.Common.{Bool, ap, ap₂, arith, codes, eqb, false, not, refl, subst, sym, true, true≢false, ℕ, ⊎_elim, ◌==◌, ◌∙◌, ◌≡◌}
 use Rattle.std.proofs.lemmas.Bool.{eqb-true, or_cases}
 use Rattle.base_token.specs.Kinds.{await_kind, const_kind, else_kind, let_kind, of_kind, using_kind, var_kind}
 use Rattle.base_token.specs.declared.place.Span.{Span}
@@ -11,11 +11,11 @@ use Rattle.grammar_spec.specs.Grammar.{children}
 use Rattle.grammar_spec.specs.Children.{Commas, Sorted, is_module_item}
 use Rattle.grammar_spec.specs.Statements.{Bindings, UsingBindings, is_var_word, starts_pattern, starts_using}
 use Rattle.print_layout_spec.specs.Layout.{comma, laid, separated, starts_bracketed}
-use Rattle.print_layout_spec.specs.Looks.{blank, formats, gap, text, when, ◌·◌}
+use Rattle.print_layout_spec.specs.Looks.{gap, text, when, ◌·◌}
 use Rattle.print_layout_spec.specs.declared.look.Look.{Look}
 use Rattle.print_layout_spec.specs.declared.look.Stand.{Stand}
 use Rattle.print_layout_spec.specs.declared.look.Stand.TheVariants.{Alone}
-use Rattle.again_laws.specs.Tokens.Spacings.{Spacing, Spaced, Touching, blanked}
+use Rattle.again_laws.specs.Tokens.Spacings.{Spacing, Spaced, Touching}
 use Rattle.again_laws.specs.Tokens.Lexicon.{Lexicon}
 use Rattle.again_laws.specs.Tokens.Means.{Known}
 use Rattle.again_laws.specs.Tokens.Told.{Breaks, says}
@@ -27,7 +27,7 @@ use Rattle.again_laws.proofs.derived_rules.Follow.{calm}
 use Rattle.again_laws.proofs.derived_rules.Lists.{more_same, run, sorted}
 use Rattle.again_laws.proofs.derived_rules.Shapes.{alike, re_is_binding, re_is_declarator}
 use Rattle.again_laws.proofs.derived_rules.Sound.{AllSound, Sound, plain_part}
-use Rattle.again_laws.proofs.derived_rules.Tokens.{behind_word, ended, gapped, keyed, semi_of, skip, unbarred, worded}
+use Rattle.again_laws.proofs.derived_rules.Tokens.{behind_word, ended, keyed, semi_of, unbarred, worded, skip_either}
 
 by_var : (k : ℕ) (P : ℕ → Type 0) → is_var_word k ≡ true → P var_kind → P let_kind → P const_kind → P k
 by_var k P h a b c = ⊎_elim (λ (e : eqb k var_kind ≡ true). subst P (sym (eqb-true k var_kind e)) a) (λ h. ⊎_elim (λ (e : eqb k let_kind ≡ true). subst P (sym (eqb-true k let_kind e)) b) (λ (e : eqb k const_kind ≡ true). subst P (sym (eqb-true k const_kind e)) c) (or_cases (eqb k let_kind) (eqb k const_kind) h)) (or_cases (eqb k var_kind) _ h)
@@ -44,6 +44,12 @@ binding_begins (array_pat s xs) ts0 r0 ts m e h = h
 binding_begins (object_pat s ps) ts0 r0 ts m e h = h
 binding_begins _ ts0 r0 ts m e h = absurd (true≢false (sym e))
 
+pub binding_plain : (t : Tree) → is_binding t ≡ true → (is_part t ≡ true) × (is_module_item t ≡ false)
+binding_plain (binding_ident s i) h = (refl, refl)
+binding_plain (array_pat s xs) h = (refl, refl)
+binding_plain (object_pat s ps) h = (refl, refl)
+binding_plain _ h = absurd (true≢false (sym h))
+
 using_else : using_kind ≡ else_kind → ⊥
 using_else e = omega arith
 
@@ -54,12 +60,6 @@ module _ (look : Look) (x : Lexicon look.style) where
   pub declarator_plain : (t : Tree) → is_declarator t ≡ true → (is_part t ≡ true) × (is_module_item t ≡ false)
   declarator_plain (var_declarator s n e) h = (refl, refl)
   declarator_plain _ h = absurd (true≢false (sym h))
-
-  binding_plain : (t : Tree) → is_binding t ≡ true → (is_part t ≡ true) × (is_module_item t ≡ false)
-  binding_plain (binding_ident s i) h = (refl, refl)
-  binding_plain (array_pat s xs) h = (refl, refl)
-  binding_plain (object_pat s ps) h = (refl, refl)
-  binding_plain _ h = absurd (true≢false (sym h))
 
   pub declarator_on : (s : Span) (n e : Tree) → Sound look x.naming Alone n → Sound look x.naming Alone e → (st : Stand) → Sound look x.naming st (var_declarator s n e)
   declarator_on s n e f g st c ts0 r0 h k b ts K q =
@@ -82,11 +82,6 @@ module _ (look : Look) (x : Lexicon look.style) where
         };
       }
 
-  -- a blank, or where formatting writes one
-  either_blank : (v : Bool) (b : Spacing) (ts : Input) (K : Spacing → Input → Type 0) → says x.naming (if v then gap look else blank) b ts K → (d : Spacing) × K d ts
-  either_blank true b ts K q = (gapped (formats look) b, skip x.naming (formats look) b ts K q)
-  either_blank false b ts K q = (blanked b, q)
-
   -- declarations without what ends them
   pub record Bound (c : Code) (k : ℕ) (ds : Trees) (r0 : Input) (b : Spacing) (ts : Input) (K : Spacing → Input → Type 0) : Type 0 where
     pub d : Spacing
@@ -100,7 +95,7 @@ module _ (look : Look) (x : Lexicon look.style) where
   pub bindings_on : (s : Span) (k : ℕ) (ds : Trees) → AllSound look x.naming ds → (c : Code) (ts0 r0 : Input) → Bindings c k (children ds) ts0 r0 → Known ts0.places → (b : Spacing) (ts : Input) (K : Spacing → Input → Type 0) → says x.naming (laid look Alone (var_decl s k ds)) b ts K → Bound c k ds r0 b ts K
   bindings_on s k none a c ts0 r0 h l b ts K q = absurd h.3
   bindings_on s k (more t us) a c ts0 r0 h l b ts K q =
-      let i = (either_blank (starts_bracketed (more t us)) Touching q.0 _ q.2).1 in
+      let i = (skip_either look x.naming (starts_bracketed (more t us)) Touching q.0 _ q.2).1 in
       let p = x.words k _ _ _ q.1.means in
       let z = run look x (Sorted is_declarator c) (Sorted is_declarator (unplaced c)) (sorted look x is_declarator re_is_declarator declarator_plain c) c t us a.0 a.1 h.0 h.3.0 r0 h.3.1 h.3.2 (x.later ts0 h.0 h.2.3 l) _ q.0 K i in record {
         d = z.d;

@@ -1,15 +1,16 @@
 -- `yield` derived again, with its operand and without (15.5).
-use Rattle.std.proofs.Common.{Bool, ap, arith, false, not, refl, subst, true, true≢false, ◌||◌, ◌∙◌, ◌≡◌, ◌≤◌}
+use Rattle.std.proofs.Common.{Bool, ap, arith, false, not, refl, subst, true, true≢false, ◌||◌, ◌∙◌, ◌≤◌}
 use Rattle.base_token.specs.Kinds.{mul_kind, yield_kind}
 use Rattle.base_token.specs.declared.place.Span.{Span}
 use Rattle.tree_spec.specs.Places.{no_place}
 use Rattle.tree_spec.specs.Tree.{Tree, absent, yield_expr}
 use Rattle.grammar_spec.specs.Tokens.Input.{Code, Input, lo, span, unplaced}
 use Rattle.grammar_spec.specs.Tokens.Operators.{assignment_level}
-use Rattle.grammar_spec.specs.Tokens.Shape.{is_absent, level}
+use Rattle.grammar_spec.specs.Tokens.Shape.{level}
 use Rattle.grammar_spec.specs.Expressions.{Yield}
 use Rattle.grammar_spec.specs.Grammar.{Produces}
 use Rattle.grammar_spec.specs.Children.{child}
+use Rattle.grammar_laws.proofs.Shapes.{present}
 use Rattle.print_gaps.specs.Edges.{starts_with_word}
 use Rattle.print_layout_spec.specs.Layout.{laid}
 use Rattle.print_layout_spec.specs.Looks.{formats, gap, gap_or, when, ◌·◌}
@@ -26,10 +27,6 @@ use Rattle.again_laws.proofs.derived_rules.Ends.{above, there}
 use Rattle.again_laws.proofs.derived_rules.Follow.{follow_on}
 use Rattle.again_laws.proofs.derived_rules.Sound.{Out, Sound, expr, expr_low, full, tight_of}
 use Rattle.again_laws.proofs.derived_rules.Tokens.{behind_word, blank_broke, keyed, skip, took, worded}
-
-absent_level : (a : Tree) → 1 ≤ level a → is_absent a ≡ false
-absent_level absent h = absurd (omega arith)
-absent_level _ h = refl
 
 as_yield : (s : Span) (a : Tree) (g : Bool) (c : Code) (ts r : Input) → 1 ≤ level a → Yield c s (child a (λ y. Produces a y)) g ts r → Produces (yield_expr s a g) c ts r
 as_yield s absent g c ts r n h = absurd (omega arith)
@@ -53,7 +50,7 @@ module _ (look : Look) (x : Lexicon look.style) where
       → says x.naming (full look st (yield_expr s a g)) b ts K → Out look x.naming st (yield_expr s a g) c ts0 r0 b ts K
   yield_on s a false f st c ts0 r0 h k b ts K q =
       let n = above assignment_level (level a) (omega arith) h.4.0 in
-      let i = skip x.naming (starts_with_word a || formats look) Touching q.0 _ (subst (λ (v : Bool). says x.naming (when v (gap_or look (starts_with_word a) · laid look Alone a)) Touching q.0 K) (there a ∙ ap not (absent_level a n)) q.2) in
+      let i = skip x.naming (starts_with_word a || formats look) Touching q.0 _ (subst (λ (v : Bool). says x.naming (when v (gap_or look (starts_with_word a) · laid look Alone a)) Touching q.0 K) (there a ∙ ap not (present a n)) q.2) in
       let y = expr look x.naming assignment_level Alone a f (omega arith) c h.0 r0 h.4 (x.later ts0 h.0 h.2.3 k) _ q.0 K i in record {
         d = y.d;
         m = y.m;
@@ -73,7 +70,7 @@ module _ (look : Look) (x : Lexicon look.style) where
   yield_on s a true f st c ts0 r0 h k b ts K q =
       let n = above assignment_level (level a) (omega arith) h.6.0 in
       let p = q.2 in
-      let i = skip x.naming (formats look) Touching p.0 _ (subst (λ (v : Bool). says x.naming (when v (gap look · laid look Alone a)) Touching p.0 K) (there a ∙ ap not (absent_level a n)) p.2) in
+      let i = skip x.naming (formats look) Touching p.0 _ (subst (λ (v : Bool). says x.naming (when v (gap look · laid look Alone a)) Touching p.0 K) (there a ∙ ap not (present a n)) p.2) in
       let y = expr look x.naming assignment_level Alone a f (omega arith) c h.1 r0 h.6 (x.later h.0 h.1 h.5.2 (x.later ts0 h.0 h.3.3 k)) _ p.0 K i in record {
         d = y.d;
         m = y.m;

@@ -6,6 +6,7 @@ use Rattle.std.proofs.lemmas.Bool.{false≢true, and_parts}
 use Rattle.std.proofs.lemmas.Bool.Decides.{nat_tests}
 use Rattle.std.proofs.lemmas.List.{append-nil}
 use Rattle.std.proofs.lemmas.Str.{chars-encodes, encodes-append}
+use Rattle.std.proofs.lemmas.Option.{same_Some}
 use lib.Utf8.{scalars, scalar}
 use Rattle.base_number.specs.Numbers.{SpecNumber, number_of}
 use Rattle.base_token.specs.Kinds.{str_kind, num_kind, big_int_kind, template_kind, regex_kind}
@@ -14,7 +15,7 @@ use Rattle.lex_source.specs.Machine.{told}
 use Rattle.lex_pieces.specs.Runs.{Each, Ends}
 use Rattle.lex_pieces.specs.RegExps.{IsRegExp}
 use Rattle.lex_literal.specs.declared.template.Ending.{Ending}
-use Rattle.lex_literal.specs.declared.template.Ending.TheVariants.{BackQuote, Substitution}
+use Rattle.lex_literal.specs.declared.template.Ending.TheVariants.{BackQuote}
 use Rattle.lex_literal.specs.Numbers.{Number, BigInt, Spells, SpellsNumber, is_barred}
 use Rattle.lex_literal.proofs.StandLemmas.{number_stands}
 use Rattle.lex_literal.specs.Strings.{SpellsString}
@@ -23,6 +24,7 @@ use Rattle.lex_token.specs.declared.goal.LexicalGoal.TheVariants.{Div, RegExp, T
 use Rattle.lex_token.specs.Lexemes.{SpecLexeme, IsLexeme, string_lexeme, numeral_lexeme, template_lexeme, pattern_lexeme}
 use Rattle.lex_token.proofs.LexemeLemmas.{one_lexeme}
 use Rattle.lex_token.proofs.SpelledLemmas.{encoded}
+use Rattle.lex_run_laws.proofs.Behind.{same_ending}
 use Rattle.print_spelling.specs.declared.style.Style.{Style}
 use Rattle.print_spelling.specs.String.CodePoints.{AreUnits}
 use Rattle.print_spelling.specs.String.Strings.{quoted, keeps_raw, string_text}
@@ -46,11 +48,11 @@ use Rattle.again_laws.proofs.tokens.Ascii.{ascii, is_ascii}
 use Rattle.again_laws.specs.Tokens.Means.{Means, Known}
 use Rattle.again_laws.proofs.tokens.Known.{scalars_front}
 use Rattle.again_laws.proofs.leaf.Origins.{from_of}
-use Rattle.again_laws.proofs.leaf.Alone.{string_alone}
+use Rattle.again_laws.proofs.leaf.StringAlone.{string_alone}
 use Rattle.again_laws.proofs.leaf.Units.{string_units}
 use Rattle.again_laws.proofs.leaf.Quotes.{quoted_scalars}
-use Rattle.again_laws.proofs.leaf.Canonical.{number_is_canonical}
-use Rattle.again_laws.proofs.leaf.Digits.{number_is_ascii, big_is_ascii}
+use Rattle.again_laws.proofs.leaf.CanonicalNumbers.{number_is_canonical}
+use Rattle.again_laws.proofs.leaf.NumbersAscii.{number_is_ascii, big_is_ascii}
 use Rattle.again_laws.proofs.leaf.Pieces.{template_scalars}
 
 -- ---- small facts
@@ -79,9 +81,6 @@ text_scalars style u raw a b = by (keeps_raw style u raw)
     by true = a
     by false = b
 
-some_is : {A : Type 0} (x y : A) → Some x ≡ Some y → x ≡ y
-some_is x y e = cc
-
 -- A string that was read, as it is written: of the same units, alone and before any rest.
 pub record Text (units text : List ℕ) : Type 0 where
   pub legacy : Bool
@@ -95,7 +94,7 @@ string_written style ts u w k c =
     let raw : chars w ≡ own = decoded own w f.from f.behind f.are_scalars f.origin.3 f.origin.4 in
     let read : SpellsString u f.origin.1 own [] = string_alone u f.origin.1 own f.behind (subst (λ (l : List ℕ). SpellsString u f.origin.1 l f.behind) f.origin.3 f.origin.2) in
     let us : AreUnits u = string_units u f.origin.1 f.from f.behind f.are_scalars f.origin.2 in
-    let again = string_is_read style u (Some (chars w)) [] us (λ t q. (f.origin.1, subst (λ (l : List ℕ). SpellsString u f.origin.1 l []) (sym raw ∙ some_is (chars w) t q) read)) in
+    let again = string_is_read style u (Some (chars w)) [] us (λ t q. (f.origin.1, subst (λ (l : List ℕ). SpellsString u f.origin.1 l []) (sym raw ∙ same_Some (chars w) t q) read)) in
     let s : scalars (chars w) ≡ true = ap scalars raw ∙ scalars_front own f.behind (sym (ap scalars f.origin.3) ∙ f.are_scalars) in record {
       legacy = again.0;
       are_scalars = text_scalars style u (chars w) s (quoted_scalars style u us);
@@ -128,7 +127,7 @@ number_written style ts v w k c =
     let n : number_of f.origin.0 ≡ Some v = f.origin.1.spelled in
     let r : number_of w ≡ Some v = ap number_of (f.origin.2 ∙ same_ascii f.origin.0 (number_is_ascii f.origin.0 v n)) ∙ n in
     let p = number_is_canonical w v r in
-    by style.minify (minified_is_read v p.0 p.1) (formatted_is_read style v (Some w) p.0 p.1 (λ t q. subst (λ (l : List ℕ). number_of l ≡ Some v) (some_is w t q) r))
+    by style.minify (minified_is_read v p.0 p.1) (formatted_is_read style v (Some w) p.0 p.1 (λ t q. subst (λ (l : List ℕ). number_of l ≡ Some v) (same_Some w t q) r))
   where
     by : (b : Bool) → number_of (minified v) ≡ Some v → number_of (formatted style v (Some w)) ≡ Some v → number_of (if b then minified v else formatted style v (Some w)) ≡ Some v
     by true m n = m
@@ -156,7 +155,7 @@ big_written style ts radix digits w k c rest t =
     let own = f.origin.0 in
     let read : Spells (BigInt radix digits) own = f.origin.1.spelled in
     let raw : w ≡ own = f.origin.2 ∙ same_ascii own (big_is_ascii radix digits own read) in
-    by style.minify (big_is_read radix digits own rest read t) (formatted_big_is_read style radix digits own (Some w) rest read (λ l q. subst (λ (l : List ℕ). Spells (BigInt radix digits) l) (sym raw ∙ some_is w l q) read) t)
+    by style.minify (big_is_read radix digits own rest read t) (formatted_big_is_read style radix digits own (Some w) rest read (λ l q. subst (λ (l : List ℕ). Spells (BigInt radix digits) l) (sym raw ∙ same_Some w l q) read) t)
   where
     by : (b : Bool) → SpellsNumber (BigInt radix digits) (big_text radix digits) (big_text radix digits ++ rest) rest → SpellsNumber (BigInt radix digits) (separated style w) (separated style w ++ rest) rest
         → SpellsNumber (BigInt radix digits) (if b then big_text radix digits else separated style w) ((if b then big_text radix digits else separated style w) ++ rest) rest
@@ -173,7 +172,7 @@ big_integers style ts radix digits w j x e k c h =
 
 -- ---- templates
 
-code_points_of : (cs : List ℕ) → scalars cs ≡ true → Each is_code_point cs
+pub code_points_of : (cs : List ℕ) → scalars cs ≡ true → Each is_code_point cs
 code_points_of [] e = tt
 code_points_of (c ∷ cs) e = let p = and_parts (scalar c) (scalars cs) e in (small c p.0, code_points_of cs p.1)
   where
@@ -207,10 +206,6 @@ tagged_written style ts w u k c =
       read = λ e after rest h. tagged_is_read own f.from f.origin.2 u f.origin.1 whole e after rest h;
     }
 
-ends_same : (e : Ending) (a b r : List ℕ) → templates.Ends e a r → templates.Ends e b r → a ≡ b
-ends_same BackQuote a b r f g = f ∙ sym g
-ends_same Substitution a b r f g = f ∙ sym g
-
 plain_written : (style : Style) (ts : Input) (w units : List ℕ) → Known ts.places → content ts ≡ Piece w (Some units) → Characters (quasi_bytes style false w) (Some units)
 plain_written style ts w units k c =
     let f = from_of ts (Piece w (Some units)) k c in
@@ -224,7 +219,7 @@ plain_written style ts w units k c =
       are_scalars = template_scalars style own s;
       read = λ e after rest h.
           let p : templates.SpellsPiece t (Some units) e (template_text style own after) rest = template_is_read style own units f.from f.origin.2 f.origin.1 whole (code_points_of own s) e after rest h in
-          subst (λ (l : List ℕ). templates.SpellsPiece t (Some units) e l rest) (p.4 ∙ ap (λ (l : List ℕ). t ++ l) (ends_same e p.1 after rest p.3 h)) p;
+          subst (λ (l : List ℕ). templates.SpellsPiece t (Some units) e l rest) (p.4 ∙ ap (λ (l : List ℕ). t ++ l) (same_ending e p.1 after rest p.3 h)) p;
     }
 
 -- with cooked units, where no tag stands before it

@@ -3,7 +3,7 @@ use Rattle.std.proofs.Common.{◌≡◌, ℕ, zero, suc, ◌<◌, Bool, true, fa
 use Rattle.std.specs.Prelude.{◌==◌, ◌^◌, if◌then◌else◌}
 use Rattle.std.specs.Char.{IsScalar}
 use Rattle.std.specs.Str.Parse.{digits_value}
-use Rattle.std.proofs.lemmas.Bool.{and_parts, ltb-true}
+use Rattle.std.proofs.lemmas.Bool.{and_parts, ltb-true, and_from}
 use Rattle.std.proofs.lemmas.Int.Digits.{digits_value-lt}
 use Rattle.std.proofs.lemmas.Bool.Decides.{nat_tests}
 use Rattle.std.proofs.lemmas.List.{append-nil}
@@ -17,7 +17,7 @@ use Rattle.print_spelling.specs.declared.template.part.Part.TheVariants.{Pair, D
 use Rattle.print_spelling.specs.Template.Templates.{is_kept_code, is_printed, hex_part, behind_x, is_separator, stays, escaped, behind_backslash, part_more, parts, form_of, part_text, digit_first, dollar_behind, parts_text, keeps_raw}
 use Rattle.print_spelling.proofs.template.TextLemmas.{can_write}
 use Rattle.again_laws.specs.Leaf.Laws.{TemplateScalars}
-use Rattle.again_laws.proofs.leaf.Scalars.{Scal, both_true, written_scal}
+use Rattle.again_laws.proofs.leaf.Scalars.{Scal, written_scal}
 
 -- What a part stands for can be written.
 abbrev IsScalarPart : Part → Type 0
@@ -40,8 +40,8 @@ fed (c ∷ cs) e = let p = and_parts (scalar c) (scalars cs) e in by p.0 (c == 1
   where
     by : scalar c ≡ true → (a b : Bool) → scalars (line_feeds cs) ≡ true → scalars (if a then (if b then line_feeds cs else 10 ∷ line_feeds cs) else c ∷ line_feeds cs) ≡ true
     by h true true m = m
-    by h true false m = both_true (scalar 10) (scalars (line_feeds cs)) refl m
-    by h false b m = both_true (scalar c) (scalars (line_feeds cs)) h m
+    by h true false m = and_from (scalar 10) (scalars (line_feeds cs)) refl m
+    by h false b m = and_from (scalar c) (scalars (line_feeds cs)) h m
 
 choose : (b : Bool) (x y : Part) → (b ≡ true → IsScalarPart x) → IsScalarPart y → IsScalarPart (if b then x else y)
 choose true x y f g = f refl
@@ -89,7 +89,7 @@ parts_scalar (suc n) (c ∷ cs) e = parts_scalar n cs (and_parts (scalar c) (sca
 -- ---- what is written of them
 
 onto : (c : ℕ) (m : List ℕ) → IsScalar c → Scal m → Scal (c ∷ m)
-onto c m h e = record { so = both_true (scalar c) (scalars m) h e.so }
+onto c m h e = record { so = and_from (scalar c) (scalars m) h e.so }
 
 part_scal : (style : Style) (dollar digit : Bool) (p : Part) (m : List ℕ) → IsScalarPart p → Scal m → Scal (part_text style dollar digit p m)
 part_scal style dollar digit (Pair d) m h e = onto 92 (d ∷ m) refl (onto d m h e)

@@ -1,20 +1,17 @@
 -- Texts of scalar values, which can be written in UTF-8.
-use Rattle.std.proofs.Common.{◌≡◌, ℕ, ◌/◌, ◌%◌, ◌<◌, Bool, true, false, ◌&&◌, List, [], ◌∷◌, ◌++◌, refl, arith}
-use Rattle.std.specs.Prelude.{nat_lt, if◌then◌else◌, ◌+◌}
-use Rattle.std.specs.Char.{IsScalar, digit_char}
-use Rattle.std.proofs.lemmas.Bool.{and_parts}
+use Rattle.std.proofs.Common.{◌≡◌, ℕ, ◌<◌, Bool, true, false, List, [], ◌∷◌, ◌++◌, refl, arith}
+use Rattle.std.specs.Prelude.{nat_lt, if◌then◌else◌}
+use Rattle.std.specs.Char.{IsScalar}
+use Rattle.std.proofs.lemmas.Bool.{and_parts, and_from}
 use Rattle.std.proofs.lemmas.Bool.Decides.{nat_tests}
 use lib.Utf8.{scalars, scalar}
 use Rattle.print_spelling.specs.declared.form.Form.{Form}
 use Rattle.print_spelling.specs.declared.form.Form.TheVariants.{Bare, Letter, Nul, Hex, Four, FourLower, Pair, Braced}
-use Rattle.print_spelling.specs.Forms.{written, Writes, upper, lower, braced_digits, lead, trail, four}
+use Rattle.print_spelling.specs.Forms.{written, Writes, upper, braced_digits, lead, trail, four}
 use Rattle.print_spelling.specs.declared.style.Style.{Style}
 use Rattle.print_spelling.specs.String.Names.{AreNameChars, name_chars, name_form, form_in, is_latin}
 use Rattle.print_spelling.proofs.string.QuotedLemmas.{scalar_code}
-
-pub both_true : (a b : Bool) → a ≡ true → b ≡ true → (a && b) ≡ true
-both_true true b e f = f
-both_true false b e f = e
+use Rattle.print_spelling.proofs.AsciiLemmas.{upper_low, lower_low}
 
 low_scalar : (n : ℕ) → n < 128 → scalar n ≡ true
 low_scalar n h = grind (arith, nat_tests)
@@ -22,28 +19,16 @@ low_scalar n h = grind (arith, nat_tests)
 pub scalar_is : (c : ℕ) → IsScalar c → scalar c ≡ true
 scalar_is c h = h
 
-pub upper_low : (p c : ℕ) → upper p c < 128
-upper_low p c = by (c / p % 16) (omega arith)
-  where
-    by : (d : ℕ) → d < 16 → (if nat_lt d 10 then 48 + d else 55 + d) < 128
-    by d h = grind (arith, nat_tests)
-
-pub lower_low : (p c : ℕ) → lower p c < 128
-lower_low p c = by (c / p % 16) (omega arith)
-  where
-    by : (d : ℕ) → d < 16 → digit_char d < 128
-    by d h = grind (arith, nat_tests)
-
 pub scalars_join : (xs ys : List ℕ) → scalars xs ≡ true → scalars ys ≡ true → scalars (xs ++ ys) ≡ true
 scalars_join [] ys e f = f
-scalars_join (x ∷ xs) ys e f = let p = and_parts (scalar x) (scalars xs) e in both_true (scalar x) _ p.0 (scalars_join xs ys p.1 f)
+scalars_join (x ∷ xs) ys e f = let p = and_parts (scalar x) (scalars xs) e in and_from (scalar x) _ p.0 (scalars_join xs ys p.1 f)
 
 -- The same, with its text kept in the type.
 pub record Scal (xs : List ℕ) : Type 0 where
   pub so : scalars xs ≡ true
 
 pub low : {n : ℕ} {xs : List ℕ} → n < 128 → Scal xs → Scal (n ∷ xs)
-low {n = n} {xs = xs} h e = record { so = both_true (scalar n) (scalars xs) (low_scalar n h) e.so }
+low {n = n} {xs = xs} h e = record { so = and_from (scalar n) (scalars xs) (low_scalar n h) e.so }
 
 pub stop : Scal []
 stop = record { so = refl }
@@ -67,7 +52,7 @@ four_scal c m e = low (omega arith) (low (omega arith) (low (upper_low 4096 c) (
 
 -- What is written of a character that can be written is scalar values.
 pub written_scal : (f : Form) (c : ℕ) (m : List ℕ) → Writes f c → Scal m → Scal (written f c m)
-written_scal Bare c m h e = record { so = both_true (scalar c) (scalars m) h e.so }
+written_scal Bare c m h e = record { so = and_from (scalar c) (scalars m) h e.so }
 written_scal (Letter l) c m h e = low (omega arith) (low h e)
 written_scal Nul c m h e = low (omega arith) (low (omega arith) e)
 written_scal Hex c m h e = low (omega arith) (low (omega arith) (low (lower_low 16 c) (low (lower_low 1 c) e)))
@@ -82,7 +67,7 @@ written_scal Braced c m h e =
 
 pub are_scalars : (first : Bool) (cs : List ℕ) → AreNameChars first cs → scalars cs ≡ true
 are_scalars first [] h = refl
-are_scalars first (c ∷ cs) h = both_true (scalar c) (scalars cs) (scalar_is c h.0) (are_scalars false cs h.2)
+are_scalars first (c ∷ cs) h = and_from (scalar c) (scalars cs) (scalar_is c h.0) (are_scalars false cs h.2)
 
 name_form_writes : (c : ℕ) → IsScalar c → (a b d e : Bool) → Writes (if a then Bare else (if b then (if d then FourLower else (if e then Four else Braced)) else Bare)) c
 name_form_writes c h true b d e = h

@@ -4,7 +4,7 @@ use Rattle.std.specs.Prelude.{◌==◌, if◌then◌else◌, nat_lt, encode_utf8
 use Rattle.std.specs.Str.{chars}
 use Rattle.std.specs.List.{list_all, flat_map}
 use Rattle.std.specs.Char.Escape.{encode_utf16}
-use Rattle.std.proofs.lemmas.Bool.{cases_Bool, false≢true, and_parts, eqb-true}
+use Rattle.std.proofs.lemmas.Bool.{cases_Bool, false≢true, and_parts, eqb-true, not-true}
 use Rattle.std.proofs.lemmas.Bool.Decides.{nat_tests}
 use Rattle.std.proofs.lemmas.Slice.Eq.{bytes_eq-Decides}
 use Rattle.std.proofs.lemmas.List.{append-nil, append_cancel_right}
@@ -68,10 +68,6 @@ ending_no : (e : Ending) → is_word (ending_kind e) ≡ false
 ending_no BackQuote = refl
 ending_no Substitution = refl
 
-not_no : (b : Bool) → not b ≡ true → b ≡ false
-not_no true e = absurd (false≢true e)
-not_no false e = refl
-
 abbrev WordedBy : List ℕ → List ℕ → SpecLexeme → Type 0
 WordedBy from behind l = is_word l.token.kind ≡ true → Worded from behind l.token
 
@@ -80,7 +76,7 @@ outside goal from l behind (inl (inl h)) = subst (λ (x : SpecLexeme). WordedBy 
 outside goal from l behind (inl (inr (inl h))) = subst (λ (x : SpecLexeme). WordedBy from behind x) (sym h.3) (λ w. absurd (false≢true (sym (numeral_no h.0 h.1) ∙ w)))
 outside goal from l behind (inl (inr (inr h))) = subst (λ (x : SpecLexeme). WordedBy from behind x) (sym h.5) (λ w. absurd (false≢true w))
 outside goal from l behind (inr (inl h)) = subst (λ (x : SpecLexeme). WordedBy from behind x) (sym h.1.3) (λ w. absurd (false≢true w))
-outside goal from l behind (inr (inr h)) = subst (λ (x : SpecLexeme). WordedBy from behind x) (sym h.1.2) (λ w. absurd (false≢true (sym (not_no _ (mark_no_word spellings h.1.1.1.0 h.1.0 spellings_marks h.1.1.1.1)) ∙ w)))
+outside goal from l behind (inr (inr h)) = subst (λ (x : SpecLexeme). WordedBy from behind x) (sym h.1.2) (λ w. absurd (false≢true (sym (not-true _ (mark_no_word spellings h.1.1.1.0 h.1.0 spellings_marks h.1.1.1.1)) ∙ w)))
 
 worded : (goal : LexicalGoal) (from : List ℕ) (l : SpecLexeme) (behind : List ℕ) → IsLexeme goal from l behind → WordedBy from behind l
 worded Div from l behind h = outside Div from l behind h

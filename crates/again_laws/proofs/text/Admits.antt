@@ -1,15 +1,18 @@
 -- Where a tree may stand, and what stands last behind it.
 use Rattle.std.proofs.Common.{◌≡◌, ℕ, ◌≤◌, ⊎_elim, Bool, true, false, ◌&&◌, ◌||◌, not, refl, sym, ap, ◌∙◌, arith}
 use Rattle.std.specs.Prelude.{nat_le}
-use Rattle.std.proofs.lemmas.Bool.{cases_Bool, false≢true, and_parts, not-true}
+use Rattle.std.proofs.lemmas.Bool.{cases_Bool, false≢true, and_parts, not-true, and_right, or_right, and_from, or_parts, not_from_false}
 use Rattle.std.proofs.lemmas.Bool.Decides.{nat_tests}
+use Rattle.base_proofs.proofs.Bools.{and_false}
 use Rattle.tree_spec.specs.Tree.{Tree, member_expr, tagged_tpl, import_star_as_specifier, export_namespace_specifier, number_lit, private_name, unary_expr, update_expr, bin_expr, new_expr, var_decl, absent, hole, var_declarator, import_decl, named_export, export_decl, export_default_decl, export_default_expr, export_all, import_named_specifier, import_default_specifier, export_named_specifier, switch_case, catch_clause, constructor, class_method, private_method, class_prop, private_prop, static_block, auto_accessor, key_value_prop, assign_prop, getter_prop, setter_prop, method_prop, key_value_pat_prop, assign_pat_prop, param, script, es_module, list}
 use Rattle.grammar_spec.specs.Tokens.Operators.{coalesce_level, unary_level, new_level, call_level, binary_level}
 use Rattle.grammar_spec.specs.Tokens.Shape.{level, is_absent, is_hole, is_private, is_word_name, is_item, is_module_decl, is_case, is_member}
+use Rattle.grammar_laws.proofs.complete_base.Levels.{binary_low}
 use Rattle.print_gaps.specs.Edges.{starts_with_word, ends_with_word, first_operand, is_plus, is_minus, is_decrement, is_not_of_decrement, starts_with_regexp}
 use Rattle.base_token.specs.declared.place.Span.{Span}
 use Rattle.print_layout_spec.specs.declared.look.Stand.{Stand}
 use Rattle.print_layout_spec.specs.Layout.{is_head, is_variables, is_block, is_bracketed_name}
+use Rattle.print_layout_spec.specs.declared.look.Stand.TheVariants.{Alone}
 use Rattle.again_laws.specs.Tiling.Categories.{Clear, Decred, Dot, Dotted, Fresh, Hashed, LessBanged, Lessed, Minused, Numbered, Operated, Plused, Pointed, Quasied, Shut, Slashed, State, Worded, is_end, is_open, is_wordless, takes}
 
 pub at_least : (a b : ℕ) → a ≤ b → nat_le a b ≡ true
@@ -17,18 +20,6 @@ at_least a b h = grind (arith, nat_tests)
 
 pub at_most : (a b : ℕ) → nat_le a b ≡ true → a ≤ b
 at_most a b e = grind (arith, nat_tests)
-
-pub or_second : (a b : Bool) → b ≡ true → (a || b) ≡ true
-or_second true b e = refl
-or_second false b e = e
-
-pub both_true : (a b : Bool) → a ≡ true → b ≡ true → (a && b) ≡ true
-both_true true b e f = f
-both_true false b e f = e
-
-pub or_none : (a b : Bool) → (a || b) ≡ false → (a ≡ false) × (b ≡ false)
-or_none true b e = absurd (false≢true (sym e))
-or_none false b e = (refl, e)
 
 -- ---- where a tree may stand
 
@@ -131,10 +122,6 @@ leaves st t Worded = ends_with_word t && not (is_ended t)
 leaves st t Numbered = (ends_with_word t && not (is_ended t)) && numeric st t
 leaves st t _ = false
 
-and_zero : (b : Bool) → (b && false) ≡ false
-and_zero true = refl
-and_zero false = refl
-
 pub admits_open : (s : State) (t : Tree) → admits s t ≡ true → is_open s ≡ true
 admits_open Pointed t e = absurd (false≢true e)
 admits_open Hashed t e = refl
@@ -157,17 +144,17 @@ worded_not : (t : Tree) → (not (starts_with_word t) && not (starts_otherwise t
 worded_not t e w = false≢true (sym (not-true (starts_with_word t) (and_parts (not (starts_with_word t)) _ e).0) ∙ w)
 
 otherwise_no_level : (t : Tree) → (nat_le 1 (level t) && starts_otherwise t) ≡ false
-otherwise_no_level (member_expr s o k) = and_zero (nat_le 1 (level (member_expr s o k)))
-otherwise_no_level (tagged_tpl s o k) = and_zero (nat_le 1 (level (tagged_tpl s o k)))
-otherwise_no_level (bin_expr s op a b) = and_zero (nat_le 1 (binary_level op))
-otherwise_no_level (new_expr s f xs) = and_zero (nat_le 1 (level (new_expr s f xs)))
+otherwise_no_level (member_expr s o k) = and_false (nat_le 1 (level (member_expr s o k)))
+otherwise_no_level (tagged_tpl s o k) = and_false (nat_le 1 (level (tagged_tpl s o k)))
+otherwise_no_level (bin_expr s op a b) = and_false (nat_le 1 (binary_level op))
+otherwise_no_level (new_expr s f xs) = and_false (nat_le 1 (level (new_expr s f xs)))
 otherwise_no_level _ = refl
 
 starred_no_level : (t : Tree) → (nat_le 1 (level t) && is_starred t) ≡ false
-starred_no_level (member_expr s o k) = and_zero (nat_le 1 (level (member_expr s o k)))
-starred_no_level (tagged_tpl s o k) = and_zero (nat_le 1 (level (tagged_tpl s o k)))
-starred_no_level (bin_expr s op a b) = and_zero (nat_le 1 (binary_level op))
-starred_no_level (new_expr s f xs) = and_zero (nat_le 1 (level (new_expr s f xs)))
+starred_no_level (member_expr s o k) = and_false (nat_le 1 (level (member_expr s o k)))
+starred_no_level (tagged_tpl s o k) = and_false (nat_le 1 (level (tagged_tpl s o k)))
+starred_no_level (bin_expr s op a b) = and_false (nat_le 1 (binary_level op))
+starred_no_level (new_expr s f xs) = and_false (nat_le 1 (level (new_expr s f xs)))
 starred_no_level _ = refl
 
 -- an expression starts with no star
@@ -178,7 +165,7 @@ pub expression_opens : (t : Tree) → 1 ≤ level t → starts_otherwise t ≡ f
 expression_opens t h = ap (λ b. b && starts_otherwise t) (sym (at_least 1 (level t) h)) ∙ otherwise_no_level t
 
 pub worded_admits : (t : Tree) → starts_with_word t ≡ false → starts_otherwise t ≡ false → admits Worded t ≡ true
-worded_admits t e f = both_true (not (starts_with_word t)) _ (ap not e) (ap not f)
+worded_admits t e f = and_from (not (starts_with_word t)) _ (ap not e) (ap not f)
 
 -- what starts with a word stands behind no word
 pub admits_word : (s : State) (t : Tree) → admits s t ≡ true → starts_with_word t ≡ true → is_wordless s ≡ true
@@ -234,6 +221,18 @@ free_open Clear e = refl
 free_open Shut e = refl
 free_open _ e = absurd (false≢true e)
 
+pub free_wordless : (s : State) → is_free s ≡ true → is_wordless s ≡ true
+free_wordless Fresh e = refl
+free_wordless Clear e = refl
+free_wordless Shut e = refl
+free_wordless _ e = absurd (false≢true e)
+
+pub free_end : (s : State) → is_free s ≡ true → is_end s ≡ true
+free_end Fresh e = refl
+free_end Clear e = refl
+free_end Shut e = refl
+free_end _ e = absurd (false≢true e)
+
 -- a head leaves no number
 pub leaves_dot : (st : Stand) (t : Tree) (u : State) → numeric st t ≡ false → leaves st t u ≡ true → takes Dot u ≡ true
 leaves_dot st t Fresh n e = refl
@@ -244,7 +243,7 @@ leaves_dot st t Numbered n e = absurd (false≢true (sym n ∙ (and_parts _ (num
 leaves_dot st t _ n e = absurd (false≢true e)
 
 pub no_lines : (t : Tree) → (is_ended t || is_nothing t) ≡ false → ((is_ended t && not (is_block t)) || is_nothing t) ≡ false
-no_lines t n = let p = or_none (is_ended t) (is_nothing t) n in ap (λ b. (b && not (is_block t)) || is_nothing t) p.0 ∙ p.1
+no_lines t n = let p = or_parts (is_ended t) (is_nothing t) n in ap (λ b. (b && not (is_block t)) || is_nothing t) p.0 ∙ p.1
 
 -- what a last part leaves the whole leaves
 pub passes : (st su : Stand) (t u : Tree) (v : State) → leaves st t v ≡ true → (is_ended t || is_nothing t) ≡ false → (ends_with_word t ≡ true → (ends_with_word u && not (is_ended u)) ≡ true) → (numeric st t ≡ true → numeric su u ≡ true)
@@ -255,15 +254,11 @@ passes st su t u Shut e n w d = refl
 passes st su t u Worded e n w d = w (and_parts (ends_with_word t) _ e).0
 passes st su t u Numbered e n w d =
     let p = and_parts (ends_with_word t && not (is_ended t)) (numeric st t) e in
-    both_true _ (numeric su u) (w (and_parts (ends_with_word t) _ p.0).0) (d p.1)
+    and_from _ (numeric su u) (w (and_parts (ends_with_word t) _ p.0).0) (d p.1)
 passes st su t u _ e n w d = absurd (false≢true e)
 
-pub and_false : (a b : Bool) → b ≡ false → (a && b) ≡ false
-and_false true b e = e
-and_false false b e = refl
-
 ended_no_level : (t : Tree) → (is_ended t && nat_le 1 (level t)) ≡ false
-ended_no_level (var_decl s k ds) = and_false _ (nat_le 1 0) refl
+ended_no_level (var_decl s k ds) = and_right _ (nat_le 1 0) refl
 ended_no_level _ = refl
 
 nothing_no_level : (t : Tree) → (is_nothing t && nat_le 1 (level t)) ≡ false
@@ -283,6 +278,10 @@ expression_plain t h =
     let n = and_first_false (is_nothing t) _ (nothing_no_level t) l in
     ap (λ b. b || is_nothing t) e ∙ n
 
+-- a last operand leaves what the whole leaves
+pub operand_leaves : (st : Stand) (x u : Tree) (v : State) → 1 ≤ level x → (ends_with_word u && not (is_ended u)) ≡ true → numeric st u ≡ true → leaves Alone x v ≡ true → leaves st u v ≡ true
+operand_leaves st x u v h w n l = passes Alone st x u v l (expression_plain x h) (λ e. w) (λ e. n)
+
 -- what doesn't end with a word leaves none
 pub leaves_wordless : (st : Stand) (t : Tree) (u : State) → (ends_with_word t && not (is_ended t)) ≡ false → leaves st t u ≡ true → is_free u ≡ true
 leaves_wordless st t Fresh n e = refl
@@ -294,9 +293,6 @@ leaves_wordless st t _ n e = absurd (false≢true e)
 
 -- ---- heads: what stands first in a larger expression
 
-pub between_binary : (op : ℕ) → binary_level op ≤ 15
-between_binary op = grind (arith, nat_tests)
-
 record Plainly (t : Tree) : Type 0 where
   no_plus : is_plus (first_operand t) ≡ false
   no_minus : is_minus (first_operand t) ≡ false
@@ -306,11 +302,8 @@ record Plainly (t : Tree) : Type 0 where
 plain_first : (t : Tree) → new_level ≤ level t → Plainly t
 plain_first (unary_expr s op a) h = absurd (omega arith)
 plain_first (update_expr s op b a) h = absurd (omega arith)
-plain_first (bin_expr s op a b) h = let k = between_binary op in absurd (omega (arith, k))
+plain_first (bin_expr s op a b) h = let k = binary_low op in absurd (omega (arith, k))
 plain_first _ h = record { no_plus = refl; no_minus = refl; no_bang = refl; no_decrement = refl }
-
-not_false : (b : Bool) → b ≡ false → not b ≡ true
-not_false b e = ap not e
 
 -- the head of a call, of a member and the like
 pub head_admits : (s : State) (t u : Tree) → new_level ≤ level u → starts_with_word u ≡ starts_with_word t → starts_with_regexp u ≡ starts_with_regexp t → (is_word_name t || is_private t) ≡ false
@@ -321,11 +314,11 @@ head_admits Shut t u h w r d e = refl
 head_admits Worded t u h w r d e = worded_admits u (w ∙ not-true (starts_with_word t) (and_parts (not (starts_with_word t)) _ e).0) (expression_opens u (omega arith))
 head_admits Numbered t u h w r d e = e
 head_admits Pointed t u h w r d e = e
-head_admits Plused t u h w r d e = both_true (is_tight u) _ (or_second (is_private u) _ (at_least coalesce_level (level u) (omega arith))) (not_false _ (plain_first u h).no_plus)
-head_admits Minused t u h w r d e = both_true (is_tight u) _ (or_second (is_private u) _ (at_least coalesce_level (level u) (omega arith))) (not_false _ (plain_first u h).no_minus)
-head_admits Slashed t u h w r d e = both_true (is_tight u) _ (or_second (is_private u) _ (at_least coalesce_level (level u) (omega arith))) (ap not r ∙ (and_parts (is_tight t) _ e).1)
-head_admits Lessed t u h w r d e = both_true (is_tight u) _ (or_second (is_private u) _ (at_least coalesce_level (level u) (omega arith))) (not_false _ (plain_first u h).no_bang)
-head_admits LessBanged t u h w r d e = both_true (nat_le unary_level (level u)) _ (at_least unary_level (level u) (omega arith)) (not_false _ (plain_first u h).no_decrement)
+head_admits Plused t u h w r d e = and_from (is_tight u) _ (or_right (is_private u) _ (at_least coalesce_level (level u) (omega arith))) (not_from_false _ (plain_first u h).no_plus)
+head_admits Minused t u h w r d e = and_from (is_tight u) _ (or_right (is_private u) _ (at_least coalesce_level (level u) (omega arith))) (not_from_false _ (plain_first u h).no_minus)
+head_admits Slashed t u h w r d e = and_from (is_tight u) _ (or_right (is_private u) _ (at_least coalesce_level (level u) (omega arith))) (ap not r ∙ (and_parts (is_tight t) _ e).1)
+head_admits Lessed t u h w r d e = and_from (is_tight u) _ (or_right (is_private u) _ (at_least coalesce_level (level u) (omega arith))) (not_from_false _ (plain_first u h).no_bang)
+head_admits LessBanged t u h w r d e = and_from (nat_le unary_level (level u)) _ (at_least unary_level (level u) (omega arith)) (not_from_false _ (plain_first u h).no_decrement)
 head_admits Dotted t u h w r d e = absurd (false≢true (sym d ∙ e))
 head_admits Operated t u h w r d e = unstarred u (omega arith)
 head_admits Decred t u h w r d e = at_least unary_level (level u) (omega arith)
@@ -353,7 +346,7 @@ loose_admits Hashed t u i n d w l e = e
 loose_admits Quasied t u i n d w l e = e
 
 binary_no_unary : (op : ℕ) → nat_le unary_level (binary_level op) ≡ true → ⊥
-binary_no_unary op e = let k = between_binary op in let h = at_most unary_level (binary_level op) e in omega (arith, k, h)
+binary_no_unary op e = let k = binary_low op in let h = at_most unary_level (binary_level op) e in omega (arith, k, h)
 
 pub tight_opens : (a : Tree) → is_tight a ≡ true → starts_otherwise a ≡ false
 tight_opens a i = ⊎_elim
@@ -384,10 +377,10 @@ left_admits Shut sp op a b i e = refl
 left_admits Worded sp op a b i e = worded_admits a (not-true (starts_with_word a) (and_parts (not (starts_with_word a)) _ e).0) (tight_opens a i)
 left_admits Numbered sp op a b i e = e
 left_admits Pointed sp op a b i e = e
-left_admits Plused sp op a b i e = both_true (is_tight a) _ i (and_parts (is_tight (bin_expr sp op a b)) _ e).1
-left_admits Minused sp op a b i e = both_true (is_tight a) _ i (and_parts (is_tight (bin_expr sp op a b)) _ e).1
-left_admits Slashed sp op a b i e = both_true (is_tight a) _ i (and_parts (is_tight (bin_expr sp op a b)) _ e).1
-left_admits Lessed sp op a b i e = both_true (is_tight a) _ i (and_parts (is_tight (bin_expr sp op a b)) _ e).1
+left_admits Plused sp op a b i e = and_from (is_tight a) _ i (and_parts (is_tight (bin_expr sp op a b)) _ e).1
+left_admits Minused sp op a b i e = and_from (is_tight a) _ i (and_parts (is_tight (bin_expr sp op a b)) _ e).1
+left_admits Slashed sp op a b i e = and_from (is_tight a) _ i (and_parts (is_tight (bin_expr sp op a b)) _ e).1
+left_admits Lessed sp op a b i e = and_from (is_tight a) _ i (and_parts (is_tight (bin_expr sp op a b)) _ e).1
 left_admits LessBanged sp op a b i e = absurd (binary_no_unary op (and_parts (nat_le unary_level (binary_level op)) _ e).0)
 left_admits Dotted sp op a b i e = absurd (false≢true e)
 left_admits Operated sp op a b i e = tight_unstarred a i

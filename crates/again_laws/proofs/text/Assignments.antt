@@ -3,7 +3,7 @@ use Rattle.std.proofs.Common.{◌≡◌, ℕ, true, false, [], ◌∷◌, ⊎_el
 use Rattle.std.specs.Prelude.{◌==◌, codes}
 use Rattle.std.proofs.lemmas.Bool.{cases_Bool, eqb-true}
 use Rattle.std.proofs.lemmas.Bool.Decides.{nat_tests}
-use Rattle.unicode_ident.proofs.Computing.{unicode_ident}
+use Rattle.base_proofs.proofs.Lists.{cons_tail}
 use Rattle.base_token.specs.Operators.{operator_text}
 use Rattle.base_token.specs.declared.token.TokenKind.TheVariants as t
 use Rattle.base_token.specs.declared.operator.AssignOp.TheVariants as a
@@ -11,125 +11,77 @@ use Rattle.grammar_spec.specs.Tokens.Operators.{is_assign_op}
 use Rattle.lex_token.specs.declared.goal.LexicalGoal.TheVariants.{Div}
 use Rattle.again_laws.proofs.tokens.Punctuators.{look, stays, all_stay}
 use Rattle.again_laws.specs.Tiling.Categories.{Operator}
-use Rattle.again_laws.specs.Tiling.Following.{is_wordy}
 use Rattle.again_laws.specs.Tiling.Goes.{Fits}
-use Rattle.again_laws.proofs.tiling.Marks.{not_first, tail_is}
+use Rattle.again_laws.proofs.tiling.Marks.{not_first}
 use Rattle.again_laws.proofs.text.Marks.{operator_mark, led_mark}
-
-wordy_37 : is_wordy 37 ≡ false
-unfolding unicode_ident
-wordy_37 = refl
-
-wordy_38 : is_wordy 38 ≡ false
-unfolding unicode_ident
-wordy_38 = refl
-
-wordy_42 : is_wordy 42 ≡ false
-unfolding unicode_ident
-wordy_42 = refl
-
-wordy_43 : is_wordy 43 ≡ false
-unfolding unicode_ident
-wordy_43 = refl
-
-wordy_45 : is_wordy 45 ≡ false
-unfolding unicode_ident
-wordy_45 = refl
-
-wordy_47 : is_wordy 47 ≡ false
-unfolding unicode_ident
-wordy_47 = refl
-
-wordy_60 : is_wordy 60 ≡ false
-unfolding unicode_ident
-wordy_60 = refl
-
-wordy_61 : is_wordy 61 ≡ false
-unfolding unicode_ident
-wordy_61 = refl
-
-wordy_62 : is_wordy 62 ≡ false
-unfolding unicode_ident
-wordy_62 = refl
-
-wordy_63 : is_wordy 63 ≡ false
-unfolding unicode_ident
-wordy_63 = refl
-
-wordy_94 : is_wordy 94 ≡ false
-unfolding unicode_ident
-wordy_94 = refl
-
-wordy_124 : is_wordy 124 ≡ false
-unfolding unicode_ident
-wordy_124 = refl
+use Rattle.again_laws.proofs.tiling.Wordless.{wordless}
 
 equals_assign : Fits Div (codes "=") Operator
 unfolding look stays all_stay
-equals_assign = operator_mark 61 [] (t.AssignOp a.Assign) refl refl refl refl refl refl refl wordy_61
+equals_assign = operator_mark 61 [] (t.AssignOp a.Assign) refl refl refl refl refl refl refl (wordless 61 refl)
 
 plus_assign : Fits Div (codes "+=") Operator
 unfolding look stays all_stay
-plus_assign = operator_mark 43 (61 ∷ []) (t.AssignOp a.AddAssign) refl refl refl refl refl refl refl wordy_43
+plus_assign = operator_mark 43 (61 ∷ []) (t.AssignOp a.AddAssign) refl refl refl refl refl refl refl (wordless 43 refl)
 
 minus_assign : Fits Div (codes "-=") Operator
 unfolding look stays all_stay
-minus_assign = led_mark 45 (61 ∷ []) (t.AssignOp a.SubAssign) refl refl refl refl refl refl wordy_45
-    (λ rest. (record { white = refl; line = refl; slashes = λ inner. not_first 45 47 (61 ∷ rest) (47 ∷ inner) refl; block = λ inner. not_first 45 47 (61 ∷ rest) (42 ∷ inner) refl; html = λ inner. not_first 45 60 (61 ∷ rest) (33 ∷ 45 ∷ 45 ∷ inner) refl }, λ inner e. not_first 61 45 (rest) (62 ∷ inner) refl (tail_is 45 (61 ∷ rest) (45 ∷ 62 ∷ inner) e)))
+minus_assign = led_mark 45 (61 ∷ []) (t.AssignOp a.SubAssign) refl refl refl refl refl refl (wordless 45 refl)
+    (λ rest. (record { white = refl; line = refl; slashes = λ inner. not_first 45 47 (61 ∷ rest) (47 ∷ inner) refl; block = λ inner. not_first 45 47 (61 ∷ rest) (42 ∷ inner) refl; html = λ inner. not_first 45 60 (61 ∷ rest) (33 ∷ 45 ∷ 45 ∷ inner) refl }, λ inner e. not_first 61 45 (rest) (62 ∷ inner) refl (cons_tail 45 45 (61 ∷ rest) (45 ∷ 62 ∷ inner) e)))
 
 times_assign : Fits Div (codes "*=") Operator
 unfolding look stays all_stay
-times_assign = operator_mark 42 (61 ∷ []) (t.AssignOp a.MulAssign) refl refl refl refl refl refl refl wordy_42
+times_assign = operator_mark 42 (61 ∷ []) (t.AssignOp a.MulAssign) refl refl refl refl refl refl refl (wordless 42 refl)
 
 divide_assign : Fits Div (codes "/=") Operator
 unfolding look stays all_stay
-divide_assign = led_mark 47 (61 ∷ []) (t.AssignOp a.DivAssign) refl refl refl refl refl refl wordy_47
-    (λ rest. (record { white = refl; line = refl; slashes = λ inner e. not_first 61 47 (rest) (inner) refl (tail_is 47 (61 ∷ rest) (47 ∷ inner) e); block = λ inner e. not_first 61 42 (rest) (inner) refl (tail_is 47 (61 ∷ rest) (42 ∷ inner) e); html = λ inner. not_first 47 60 (61 ∷ rest) (33 ∷ 45 ∷ 45 ∷ inner) refl }, λ inner. not_first 47 45 (61 ∷ rest) (45 ∷ 62 ∷ inner) refl))
+divide_assign = led_mark 47 (61 ∷ []) (t.AssignOp a.DivAssign) refl refl refl refl refl refl (wordless 47 refl)
+    (λ rest. (record { white = refl; line = refl; slashes = λ inner e. not_first 61 47 (rest) (inner) refl (cons_tail 47 47 (61 ∷ rest) (47 ∷ inner) e); block = λ inner e. not_first 61 42 (rest) (inner) refl (cons_tail 47 47 (61 ∷ rest) (42 ∷ inner) e); html = λ inner. not_first 47 60 (61 ∷ rest) (33 ∷ 45 ∷ 45 ∷ inner) refl }, λ inner. not_first 47 45 (61 ∷ rest) (45 ∷ 62 ∷ inner) refl))
 
 rest_assign : Fits Div (codes "%=") Operator
 unfolding look stays all_stay
-rest_assign = operator_mark 37 (61 ∷ []) (t.AssignOp a.ModAssign) refl refl refl refl refl refl refl wordy_37
+rest_assign = operator_mark 37 (61 ∷ []) (t.AssignOp a.ModAssign) refl refl refl refl refl refl refl (wordless 37 refl)
 
 shift_left_assign : Fits Div (codes "<<=") Operator
 unfolding look stays all_stay
-shift_left_assign = led_mark 60 (60 ∷ 61 ∷ []) (t.AssignOp a.LShiftAssign) refl refl refl refl refl refl wordy_60
-    (λ rest. (record { white = refl; line = refl; slashes = λ inner. not_first 60 47 (60 ∷ 61 ∷ rest) (47 ∷ inner) refl; block = λ inner. not_first 60 47 (60 ∷ 61 ∷ rest) (42 ∷ inner) refl; html = λ inner e. not_first 60 33 (61 ∷ rest) (45 ∷ 45 ∷ inner) refl (tail_is 60 (60 ∷ 61 ∷ rest) (33 ∷ 45 ∷ 45 ∷ inner) e) }, λ inner. not_first 60 45 (60 ∷ 61 ∷ rest) (45 ∷ 62 ∷ inner) refl))
+shift_left_assign = led_mark 60 (60 ∷ 61 ∷ []) (t.AssignOp a.LShiftAssign) refl refl refl refl refl refl (wordless 60 refl)
+    (λ rest. (record { white = refl; line = refl; slashes = λ inner. not_first 60 47 (60 ∷ 61 ∷ rest) (47 ∷ inner) refl; block = λ inner. not_first 60 47 (60 ∷ 61 ∷ rest) (42 ∷ inner) refl; html = λ inner e. not_first 60 33 (61 ∷ rest) (45 ∷ 45 ∷ inner) refl (cons_tail 60 60 (60 ∷ 61 ∷ rest) (33 ∷ 45 ∷ 45 ∷ inner) e) }, λ inner. not_first 60 45 (60 ∷ 61 ∷ rest) (45 ∷ 62 ∷ inner) refl))
 
 shift_right_assign : Fits Div (codes ">>=") Operator
 unfolding look stays all_stay
-shift_right_assign = operator_mark 62 (62 ∷ 61 ∷ []) (t.AssignOp a.RShiftAssign) refl refl refl refl refl refl refl wordy_62
+shift_right_assign = operator_mark 62 (62 ∷ 61 ∷ []) (t.AssignOp a.RShiftAssign) refl refl refl refl refl refl refl (wordless 62 refl)
 
 zero_fill_assign : Fits Div (codes ">>>=") Operator
 unfolding look stays all_stay
-zero_fill_assign = operator_mark 62 (62 ∷ 62 ∷ 61 ∷ []) (t.AssignOp a.ZeroFillRShiftAssign) refl refl refl refl refl refl refl wordy_62
+zero_fill_assign = operator_mark 62 (62 ∷ 62 ∷ 61 ∷ []) (t.AssignOp a.ZeroFillRShiftAssign) refl refl refl refl refl refl refl (wordless 62 refl)
 
 bit_or_assign : Fits Div (codes "|=") Operator
 unfolding look stays all_stay
-bit_or_assign = operator_mark 124 (61 ∷ []) (t.AssignOp a.BitOrAssign) refl refl refl refl refl refl refl wordy_124
+bit_or_assign = operator_mark 124 (61 ∷ []) (t.AssignOp a.BitOrAssign) refl refl refl refl refl refl refl (wordless 124 refl)
 
 bit_xor_assign : Fits Div (codes "^=") Operator
 unfolding look stays all_stay
-bit_xor_assign = operator_mark 94 (61 ∷ []) (t.AssignOp a.BitXorAssign) refl refl refl refl refl refl refl wordy_94
+bit_xor_assign = operator_mark 94 (61 ∷ []) (t.AssignOp a.BitXorAssign) refl refl refl refl refl refl refl (wordless 94 refl)
 
 bit_and_assign : Fits Div (codes "&=") Operator
 unfolding look stays all_stay
-bit_and_assign = operator_mark 38 (61 ∷ []) (t.AssignOp a.BitAndAssign) refl refl refl refl refl refl refl wordy_38
+bit_and_assign = operator_mark 38 (61 ∷ []) (t.AssignOp a.BitAndAssign) refl refl refl refl refl refl refl (wordless 38 refl)
 
 power_assign : Fits Div (codes "**=") Operator
 unfolding look stays all_stay
-power_assign = operator_mark 42 (42 ∷ 61 ∷ []) (t.AssignOp a.ExpAssign) refl refl refl refl refl refl refl wordy_42
+power_assign = operator_mark 42 (42 ∷ 61 ∷ []) (t.AssignOp a.ExpAssign) refl refl refl refl refl refl refl (wordless 42 refl)
 
 and_assign : Fits Div (codes "&&=") Operator
 unfolding look stays all_stay
-and_assign = operator_mark 38 (38 ∷ 61 ∷ []) (t.AssignOp a.AndAssign) refl refl refl refl refl refl refl wordy_38
+and_assign = operator_mark 38 (38 ∷ 61 ∷ []) (t.AssignOp a.AndAssign) refl refl refl refl refl refl refl (wordless 38 refl)
 
 or_assign : Fits Div (codes "||=") Operator
 unfolding look stays all_stay
-or_assign = operator_mark 124 (124 ∷ 61 ∷ []) (t.AssignOp a.OrAssign) refl refl refl refl refl refl refl wordy_124
+or_assign = operator_mark 124 (124 ∷ 61 ∷ []) (t.AssignOp a.OrAssign) refl refl refl refl refl refl refl (wordless 124 refl)
 
 coalesce_assign : Fits Div (codes "??=") Operator
 unfolding look stays all_stay
-coalesce_assign = operator_mark 63 (63 ∷ 61 ∷ []) (t.AssignOp a.NullishAssign) refl refl refl refl refl refl refl wordy_63
+coalesce_assign = operator_mark 63 (63 ∷ 61 ∷ []) (t.AssignOp a.NullishAssign) refl refl refl refl refl refl refl (wordless 63 refl)
 
 -- of one of these kinds
 pick : (k n : ℕ) (P : ℕ → Type 0) → P n → ((k == n) ≡ false → P k) → P k

@@ -1,8 +1,9 @@
 -- Unary and binary operators.
 use Rattle.std.proofs.Common.{◌≡◌, ℕ, ◌<◌, ◌≤◌, inl, inr, ⊎_elim, Bool, true, false, ◌&&◌, ◌||◌, not, List, [], ◌∷◌, refl, sym, ap, subst, ◌∙◌, arith}
 use Rattle.std.specs.Prelude.{◌==◌, nat_le, if◌then◌else◌}
-use Rattle.std.proofs.lemmas.Bool.{cases_Bool, false≢true, true≢false, and_parts, eqb-true, or_cases}
+use Rattle.std.proofs.lemmas.Bool.{cases_Bool, false≢true, true≢false, and_parts, eqb-true, or_cases, and_from, or_parts, or_right}
 use Rattle.std.proofs.lemmas.Bool.Decides.{nat_tests}
+use Rattle.base_proofs.proofs.Bools.{or_first}
 use Rattle.base_token.specs.declared.place.Span.{Span}
 use Rattle.base_token.specs.Kinds.{bang_kind, tilde_kind, add_kind, sub_kind, typeof_kind, void_kind, delete_kind, mul_kind, div_kind, mod_kind, lt_kind, lt_eq_kind, gt_kind, gt_eq_kind, in_kind, instanceof_kind, eq_eq_kind, not_eq_kind, eq_eq_eq_kind, not_eq_eq_kind, exp_kind, left_shift_kind, right_shift_kind, zero_fill_right_shift_kind, bit_or_kind, bit_xor_kind, bit_and_kind, logical_or_kind, logical_and_kind, nullish_coalescing_kind}
 use Rattle.base_token.specs.Words.{own_text}
@@ -11,6 +12,7 @@ use Rattle.tree_spec.specs.Tree.{Tree, bin_expr, unary_expr, private_name}
 use Rattle.grammar_spec.specs.Tokens.Input.{Input, Code}
 use Rattle.grammar_spec.specs.Tokens.Operators.{coalesce_level, unary_level, call_level, binary_level, right_level, operates}
 use Rattle.grammar_spec.specs.Tokens.Shape.{level, fits_left, is_private}
+use Rattle.grammar_laws.proofs.complete_base.Levels.{binary_low}
 use Rattle.print_gaps.specs.Edges.{starts_with_word, ends_with_word, is_word_operator, first_operand, gap_before, gap_after, gap_of_unary, is_plus, is_minus, is_not_of_decrement}
 use Rattle.lex_pieces.specs.Characters.{is_among}
 use Rattle.print_layout_spec.specs.declared.look.Look.{Look}
@@ -22,10 +24,10 @@ use Rattle.print_layout_spec.specs.Words.{sign_of}
 use Rattle.lex_token.specs.declared.goal.LexicalGoal.TheVariants.{Div}
 use Rattle.again_laws.proofs.text.Keywords.{delete_word, in_word, instanceof_word, typeof_word, void_word}
 use Rattle.again_laws.proofs.text.Marks.{and_mark, bang_mark, bit_and_mark, bit_or_mark, bit_xor_mark, coalesce_mark, equal_mark, greater_equal_mark, greater_mark, less_equal_mark, less_mark, minus_mark, not_equal_mark, not_same_mark, or_mark, plus_mark, power_mark, rest_mark, same_mark, shift_left_mark, shift_right_mark, slash_mark, tilde_mark, times_mark, zero_fill_mark}
-use Rattle.again_laws.proofs.text.Admits.{tight_unstarred, unstarred, admits, admits_open, admits_word, at_least, at_most, between_binary, both_true, expression_opens, expression_plain, is_ended, is_free, is_nothing, is_tight, leaves, leaves_end, leaves_open, leaves_wordless, left_admits, no_lines, numeric, or_none, or_second, passes, tight_opens, worded_admits}
+use Rattle.again_laws.proofs.text.Admits.{tight_unstarred, unstarred, admits, admits_open, admits_word, at_least, at_most, expression_opens, expression_plain, is_ended, is_nothing, is_tight, leaves, leaves_end, leaves_open, leaves_wordless, left_admits, no_lines, numeric, passes, tight_opens, worded_admits, free_wordless}
 use Rattle.again_laws.proofs.text.Forms.{Sound}
 use Rattle.again_laws.proofs.text.Steps.{Apart, Steps, apart, at, blanks, gaps_or, mark, text_by, when_goes, ◌▸◌, ends}
-use Rattle.again_laws.specs.Tiling.Categories.{Bang, Category, Clear, Closed, Fresh, Hashed, Less, Lessed, Minus, Minused, Numbered, Operated, Operator, Plus, Plused, Pointed, Quasied, Shut, Slash, Slashed, State, Word, Worded, behind, blank_behind, is_end, is_open, is_wordless, takes}
+use Rattle.again_laws.specs.Tiling.Categories.{Bang, Category, Clear, Closed, Fresh, Hashed, Less, Lessed, Minus, Minused, Numbered, Operated, Operator, Plus, Plused, Pointed, Quasied, Shut, Slash, Slashed, State, Word, Worded, behind, blank_behind, is_end, is_open, takes}
 use Rattle.again_laws.specs.Tiling.Goes.{Fits}
 
 -- one of a few kinds
@@ -53,11 +55,11 @@ record Signs (k : ℕ) : Type 0 where
   clears : (s : State) (x : Tree) → is_open (behind class s) ≡ true
 
 not_first : (x : Tree) → unary_level ≤ level x → first_operand x ≡ x
-not_first (bin_expr s op a b) h = let k = between_binary op in absurd (omega (arith, k))
+not_first (bin_expr s op a b) h = let k = binary_low op in absurd (omega (arith, k))
 not_first _ h = refl
 
 tight_by : (x : Tree) → unary_level ≤ level x → is_tight x ≡ true
-tight_by x h = or_second (is_private x) _ (at_least coalesce_level (level x) (omega arith))
+tight_by x h = or_right (is_private x) _ (at_least coalesce_level (level x) (omega arith))
 
 plus_stands : (s : State) (sp : Span) (x : Tree) → admits s (unary_expr sp add_kind x) ≡ true → takes Plus s ≡ true
 plus_stands Plused sp x e = absurd (false≢true e)
@@ -78,15 +80,12 @@ bang_stands Quasied sp x e = absurd (false≢true e)
 bang_stands _ sp x e = refl
 
 bang_on : (s : State) (sp : Span) (x : Tree) → unary_level ≤ level x → admits s (unary_expr sp bang_kind x) ≡ true → admits (behind Bang s) x ≡ true
-bang_on Lessed sp x h e = both_true (nat_le unary_level (level x)) _ (at_least unary_level (level x) h) (and_parts (is_tight (unary_expr sp bang_kind x)) _ e).1
+bang_on Lessed sp x h e = and_from (nat_le unary_level (level x)) _ (at_least unary_level (level x) h) (and_parts (is_tight (unary_expr sp bang_kind x)) _ e).1
 bang_on _ sp x h e = unstarred x (omega arith)
 
 bang_open : (s : State) → is_open (behind Bang s) ≡ true
 bang_open Lessed = refl
 bang_open _ = refl
-
-or_false_first : (a b : Bool) → (a || b) ≡ false → a ≡ false
-or_false_first a b e = (or_none a b e).0
 
 plus_signs : Signs add_kind
 unfolding sign_of
@@ -94,7 +93,7 @@ plus_signs = record {
   class = Plus;
   fits = plus_mark;
   stands = plus_stands;
-  then_on = λ s sp x h a g. both_true (is_tight x) _ (tight_by x h) (ap not (ap is_plus (not_first x h) ∙ or_false_first (is_plus x) _ g));
+  then_on = λ s sp x h a g. and_from (is_tight x) _ (tight_by x h) (ap not (ap is_plus (not_first x h) ∙ or_first (is_plus x) _ g));
   clears = λ s x. refl;
 }
 
@@ -104,7 +103,7 @@ minus_signs = record {
   class = Minus;
   fits = minus_mark;
   stands = minus_stands;
-  then_on = λ s sp x h a g. both_true (is_tight x) _ (tight_by x h) (ap not (ap is_minus (not_first x h) ∙ g));
+  then_on = λ s sp x h a g. and_from (is_tight x) _ (tight_by x h) (ap not (ap is_minus (not_first x h) ∙ g));
   clears = λ s x. refl;
 }
 
@@ -212,7 +211,7 @@ slash_operates = record {
   open_after = refl;
   left = λ st a v e n g. (end_takes v (leaves_end st a v e)).1;
   clear = refl;
-  right = λ b i g. both_true (is_tight b) _ i (ap not g);
+  right = λ b i g. and_from (is_tight b) _ i (ap not g);
 }
 
 less_operates : Operates lt_kind
@@ -227,7 +226,7 @@ less_operates = record {
   open_after = refl;
   left = λ st a v e n g. (end_takes v (leaves_end st a v e)).2;
   clear = refl;
-  right = λ b i g. both_true (is_tight b) _ i (ap not ((or_none (is_not_of_decrement (first_operand b)) _ g).0));
+  right = λ b i g. and_from (is_tight b) _ i (ap not ((or_parts (is_not_of_decrement (first_operand b)) _ g).0));
 }
 
 plus_operates : Operates add_kind
@@ -242,7 +241,7 @@ plus_operates = record {
   open_after = refl;
   left = λ st a v e n g. (end_takes v (leaves_end st a v e)).3;
   clear = refl;
-  right = λ b i g. both_true (is_tight b) _ i (ap not ((or_none (is_plus (first_operand b)) _ g).0));
+  right = λ b i g. and_from (is_tight b) _ i (ap not ((or_parts (is_plus (first_operand b)) _ g).0));
 }
 
 minus_operates : Operates sub_kind
@@ -257,14 +256,8 @@ minus_operates = record {
   open_after = refl;
   left = λ st a v e n g. (end_takes v (leaves_end st a v e)).4;
   clear = refl;
-  right = λ b i g. both_true (is_tight b) _ i (ap not ((or_none (is_minus (first_operand b)) _ g).0));
+  right = λ b i g. and_from (is_tight b) _ i (ap not ((or_parts (is_minus (first_operand b)) _ g).0));
 }
-
-free_wordless : (v : State) → is_free v ≡ true → is_wordless v ≡ true
-free_wordless Fresh e = refl
-free_wordless Clear e = refl
-free_wordless Shut e = refl
-free_wordless _ e = absurd (false≢true e)
 
 word_operates : (k : ℕ) → Fits Div (operator_text k) Word → 4 ≤ binary_level k → 4 ≤ right_level k → is_word_operator k ≡ true → Operates k
 word_operates k f l r w = record {
@@ -275,9 +268,9 @@ word_operates k f l r w = record {
   right_low = r;
   after = λ v. refl;
   open_after = refl;
-  left = λ st a v e n g. free_wordless v (leaves_wordless st a v (and_first_off (ends_with_word a) (not (is_ended a)) (and_of (is_word_operator k) (ends_with_word a) w (or_none _ _ g).0)) e);
+  left = λ st a v e n g. free_wordless v (leaves_wordless st a v (and_first_off (ends_with_word a) (not (is_ended a)) (and_of (is_word_operator k) (ends_with_word a) w (or_parts _ _ g).0)) e);
   clear = refl;
-  right = λ b i g. worded_admits b (and_of (is_word_operator k) (starts_with_word b) w (or_none _ _ g).0) (tight_opens b i);
+  right = λ b i g. worded_admits b (and_of (is_word_operator k) (starts_with_word b) w (or_parts _ _ g).0) (tight_opens b i);
 }
   where
     and_of : (a b : Bool) → a ≡ true → (a && b) ≡ false → b ≡ false
@@ -387,7 +380,7 @@ operating c k e = ⊎_elim
 left_tight : (k : ℕ) (a : Tree) → 4 ≤ binary_level k → fits_left k a ≡ true → is_tight a ≡ true
 left_tight k a l e = ⊎_elim
     (λ (t : is_private a ≡ true). ap (λ b. b || nat_le coalesce_level (level a)) t)
-    (λ (f : is_private a ≡ false). or_second (is_private a) _ (at_least coalesce_level (level a) (by f)))
+    (λ (f : is_private a ≡ false). or_right (is_private a) _ (at_least coalesce_level (level a) (by f)))
     (cases_Bool (is_private a))
   where
     by : is_private a ≡ false → 4 ≤ level a
@@ -412,7 +405,7 @@ blank_admits Fresh b = refl
 blank_admits _ b = refl
 
 binary_numeric : (st : Stand) (sp : Span) (k : ℕ) (a b : Tree) → numeric st (bin_expr sp k a b) ≡ true
-binary_numeric st sp k a b = ap (λ c. not (c || false)) (let h = between_binary k in below call_level (binary_level k) (omega (arith, h)))
+binary_numeric st sp k a b = ap (λ c. not (c || false)) (let h = binary_low k in below call_level (binary_level k) (omega (arith, h)))
   where
     below : (m n : ℕ) → n < m → nat_le m n ≡ false
     below m n h = grind (arith, nat_tests)
@@ -424,7 +417,7 @@ module _ (look : Look) where
       let i = left_tight k a z.low h.3 in
       let p = tight_level a i in
       when_goes (marked_as_operand st) (λ t. mark) (λ t. refl) ▸ at (f _ _ _ h.4 Operand s (left_admits s sp k a b i e) ▸ λ v l.
-      gaps_or look (gap_before k a) (leaves_open Operand a v l) ▸ apart (λ n. sign z v (z.left Operand a v l (or_none (is_ended a) _ p).0 n))
+      gaps_or look (gap_before k a) (leaves_open Operand a v l) ▸ apart (λ n. sign z v (z.left Operand a v l (or_parts (is_ended a) _ p).0 n))
       (sign z (blank_behind v) (ap (takes z.class) (blank_clear Operand a v l p) ∙ z.clear)))
     where
       operand : (u : State) → admits u b ≡ true → 4 ≤ right_level k → Steps (laid look Alone b) u (λ v. leaves st (bin_expr sp k a b) v ≡ true)
@@ -433,7 +426,7 @@ module _ (look : Look) where
       behind_sign : (z : Operates k) → Steps (gap_or look (gap_after k b) · laid look Alone b) z.last (λ u. leaves st (bin_expr sp k a b) u ≡ true)
       behind_sign z =
           let w = z.right_low in
-          let d : is_tight b ≡ true = or_second (is_private b) _ (at_least coalesce_level (level b) (omega (arith, w, h.6.0))) in
+          let d : is_tight b ≡ true = or_right (is_private b) _ (at_least coalesce_level (level b) (omega (arith, w, h.6.0))) in
           gaps_or look (gap_after k b) z.open_after ▸ apart (λ n. operand z.last (z.right b d n) w) (operand (blank_behind z.last) (blank_admits z.last b) w)
 
       sign : (z : Operates k) (v : State) → takes z.class v ≡ true → Steps (text (operator_text k) · gap_or look (gap_after k b) · laid look Alone b) v (λ u. leaves st (bin_expr sp k a b) u ≡ true)

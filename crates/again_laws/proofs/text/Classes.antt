@@ -15,21 +15,15 @@ use Rattle.print_layout_spec.specs.Layout.{laid, rows, class_head, class_tail, i
 use Rattle.again_laws.specs.Tiling.Categories.{State, Fresh, Clear, Shut, Worded, Operated, Operator, is_open, is_end, is_wordless, blank_behind}
 use Rattle.again_laws.proofs.text.Keywords.{class_word, extends_word, static_word, constructor_word, accessor_word, async_word}
 use Rattle.again_laws.proofs.text.Marks.{left_paren, right_paren, left_brace, equals_mark, times_mark}
-use Rattle.again_laws.proofs.text.Admits.{admits, leaves, is_starred, worded_admits, expression_opens, unstarred, admits_word, leaves_open, leaves_end, is_free, free_admits, free_open}
+use Rattle.again_laws.proofs.text.Admits.{admits, leaves, is_starred, worded_admits, expression_opens, unstarred, admits_word, leaves_open, leaves_end, is_free, free_admits, free_open, free_wordless, free_end}
 use Rattle.again_laws.proofs.text.Steps.{Steps, At, ◌▸◌, ends, at, either, apart, mark, nil, text_by, shut, worded, braced, blanks, semicolons, when_goes, if_goes, gaps, gaps_or}
 use Rattle.again_laws.proofs.text.Forms.{Good, AllGood}
-use Rattle.again_laws.proofs.text.Names.{leaving, commas_go}
+use Rattle.again_laws.proofs.text.NamesAndCalls.{leaving, commas_go}
 use Rattle.again_laws.proofs.text.Statements.{AllItems}
-use Rattle.again_laws.proofs.text.Further.{gapped, free_wordless, blank_free, get_or_set}
+use Rattle.again_laws.proofs.text.VariablesAndMethods.{gapped, blank_free, get_or_set}
 use Rattle.again_laws.proofs.text.Patterns.{inner_admits, key_unstarred, blank_open}
 use Rattle.again_laws.proofs.text.Functions.{tail}
 use Rattle.again_laws.proofs.text.Loops.{AllRows, rows_on, rows_out, free_leaves, parens_on, block_on}
-
-free_end : (u : State) → is_free u ≡ true → is_end u ≡ true
-free_end Fresh e = refl
-free_end Clear e = refl
-free_end Shut e = refl
-free_end _ e = absurd (false≢true e)
 
 module _ (look : Look) where
   -- ---- the whole class

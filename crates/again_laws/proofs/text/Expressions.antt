@@ -1,18 +1,17 @@
 -- Expressions of several parts: lists, assignments, operators that are words.
 use Rattle.std.proofs.Common.{◌≡◌, ℕ, ◌≤◌, ◌⊎◌, inr, ⊎_elim, Bool, true, false, ◌&&◌, ◌||◌, not, refl, sym, ap, ◌∙◌, arith}
 use Rattle.std.specs.Prelude.{◌==◌, nat_le}
-use Rattle.std.proofs.lemmas.Bool.{false≢true, true≢false, and_parts, not-true}
+use Rattle.std.proofs.lemmas.Bool.{false≢true, true≢false, and_parts, not-true, or_parts}
 use Rattle.base_token.specs.declared.place.Span.{Span}
 use Rattle.base_token.specs.Kinds.{assign_kind}
 use Rattle.tree_spec.specs.Tree.{Tree, Trees, none, more, array_lit, object_lit, assign_expr, seq_expr, await_expr, yield_expr, spread_element, key_value_prop, list, new_expr, binding_ident, member_expr, super_prop_expr, paren_expr, array_pat, object_pat}
 use Rattle.grammar_spec.specs.Tokens.Input.{Input, Code}
 use Rattle.grammar_spec.specs.Tokens.Operators.{assignment_level, is_assign_op}
 use Rattle.grammar_spec.specs.Tokens.Shape.{level, is_target}
-use Rattle.print_gaps.specs.Edges.{starts_with_word, ends_with_word, is_there}
+use Rattle.print_gaps.specs.Edges.{starts_with_word, is_there}
 use Rattle.grammar_spec.specs.Children.{Expr, CommaThen}
 use Rattle.grammar_spec.specs.Grammar.{children}
 use Rattle.print_layout_spec.specs.declared.look.Look.{Look}
-use Rattle.print_layout_spec.specs.declared.look.Stand.{Stand}
 use Rattle.print_layout_spec.specs.declared.look.Stand.TheVariants.{Alone, Head, Key}
 use Rattle.print_layout_spec.specs.Looks.{Laid, ◌·◌, when, formats}
 use Rattle.print_layout_spec.specs.Layout.{laid, separated, comma, comma_line, indented, ends_with_hole, in_parens, is_head, has_arguments}
@@ -20,11 +19,11 @@ use Rattle.again_laws.specs.Tiling.Categories.{State, Fresh, Clear, Shut, Worded
 use Rattle.again_laws.proofs.text.Keywords.{await_word, yield_word, new_word}
 use Rattle.again_laws.proofs.text.Marks.{left_bracket, right_bracket, left_brace, left_paren, right_paren, comma_mark, colon_mark, times_mark}
 use Rattle.again_laws.proofs.text.Assignments.{assignments}
-use Rattle.again_laws.proofs.text.Admits.{admits, leaves, is_ended, numeric, passes, expression_plain, expression_opens, worded_admits, unstarred, admits_open, admits_word, leaves_open, leaves_end, is_free, free_admits, free_open, loose_admits, or_none}
+use Rattle.again_laws.proofs.text.Admits.{admits, leaves, passes, expression_plain, expression_opens, worded_admits, unstarred, admits_open, admits_word, leaves_open, leaves_end, is_free, free_admits, free_open, loose_admits, operand_leaves}
 use Rattle.again_laws.proofs.text.Steps.{Steps, ◌▸◌, ends, at, either, apart, mark, committed, nil, text_by, shut, worded, braced, blanks, when_goes, gaps, gaps_or, lines, deepens, comes_back}
 use Rattle.again_laws.proofs.text.Forms.{Good, AllGood, Sound, AllSound}
-use Rattle.again_laws.proofs.text.Names.{leaving, commas_go}
-use Rattle.again_laws.proofs.text.Further.{gapped, last_leaves, AllDeclared, declared_go}
+use Rattle.again_laws.proofs.text.NamesAndCalls.{leaving, commas_go}
+use Rattle.again_laws.proofs.text.VariablesAndMethods.{gapped, AllDeclared, declared_go}
 
 module _ (look : Look) where
   -- ---- 13.2.4 arrays, 13.2.5 objects
@@ -61,16 +60,12 @@ module _ (look : Look) where
   object_node sp ps a st s d =
       mark ▸ at (shut left_brace (admits_open s (object_lit sp ps) d) ▸ at (spread_out ps _ Shut refl (λ u f. lines_go ps u a f) ▸ λ v o. mark ▸ at (leaving st (object_lit sp ps) (braced o) refl)))
 
-  -- a value of a property leaves what it leaves; no property is followed by a word
-  pub value_leaves : (st : Stand) (e p : Tree) (v : State) → 1 ≤ level e → (ends_with_word p && not (is_ended p)) ≡ true → numeric st p ≡ true → leaves Alone e v ≡ true → leaves st p v ≡ true
-  value_leaves st e p v h w n l = passes Alone st e p v l (expression_plain e h) (λ q. w) (λ q. n)
-
   pub property_node : (sp : Span) (k e : Tree) → ((s : State) → admits s (key_value_prop sp k e) ≡ true → admits s k ≡ true) → Good look k → Good look e → 1 ≤ level e → Good look (key_value_prop sp k e)
   property_node sp k e b f g h st s a =
       mark ▸ at (f Key s (b s a) ▸ λ v l. shut colon_mark (leaves_open Key k v l) ▸ at (gaps look refl ▸ either (value Shut refl) (value Clear refl)))
     where
       value : (u : State) → admits u e ≡ true → Steps (laid look Alone e) u (λ v. leaves st (key_value_prop sp k e) v ≡ true)
-      value u q = ends (g Alone u q) (λ v l. value_leaves st e (key_value_prop sp k e) v h refl refl l)
+      value u q = ends (g Alone u q) (λ v l. operand_leaves st e (key_value_prop sp k e) v h refl refl l)
 
   dots_stand : (s : State) (sp : Span) (e : Tree) → admits s (spread_element sp e) ≡ true → (takes Dots s ≡ true) ⊎ (is_open s ≡ true)
   dots_stand s sp e a = inr (admits_open s (spread_element sp e) a)
@@ -103,7 +98,7 @@ module _ (look : Look) where
       f Alone s (target_admits s sp op t e i a) ▸ λ v l. gapped look v (laid look Alone e) (assignments op o) (leaves_end Alone t v l) (value Operated (unstarred e h)) (value Clear refl)
     where
       value : (u : State) → admits u e ≡ true → Steps (laid look Alone e) u (λ v. leaves st (assign_expr sp op t e) v ≡ true)
-      value u q = ends (g Alone u q) (λ v l. last_leaves look st e (assign_expr sp op t e) v h refl refl l)
+      value u q = ends (g Alone u q) (λ v l. operand_leaves st e (assign_expr sp op t e) v h refl refl l)
 
   -- ---- 13.16 the comma
 
@@ -124,7 +119,7 @@ module _ (look : Look) where
 
   pub await_node : (sp : Span) (e : Tree) → Good look e → 1 ≤ level e → Good look (await_expr sp e)
   await_node sp e f h st s a =
-      mark ▸ at (worded await_word (admits_word s (await_expr sp e) a refl) ▸ at (blanks refl ▸ at (ends (f Alone Clear refl) (λ v l. last_leaves look st e (await_expr sp e) v h refl refl l))))
+      mark ▸ at (worded await_word (admits_word s (await_expr sp e) a refl) ▸ at (blanks refl ▸ at (ends (f Alone Clear refl) (λ v l. operand_leaves st e (await_expr sp e) v h refl refl l))))
 
   pub yield_node : (sp : Span) (e : Tree) → (is_there e ≡ true → Good look e × (1 ≤ level e)) → Good look (yield_expr sp e false)
   yield_node sp e f st s a =
@@ -132,7 +127,7 @@ module _ (look : Look) where
       (λ t. gaps_or look (starts_with_word e) refl ▸ apart (λ n. value t Worded (worded_admits e n (expression_opens e (f t).1))) (value t Clear refl)) (λ t. refl)))
     where
       value : is_there e ≡ true → (u : State) → admits u e ≡ true → Steps (laid look Alone e) u (λ v. leaves st (yield_expr sp e false) v ≡ true)
-      value t u q = ends ((f t).0 Alone u q) (λ v l. last_leaves look st e (yield_expr sp e false) v (f t).1 refl refl l)
+      value t u q = ends ((f t).0 Alone u q) (λ v l. operand_leaves st e (yield_expr sp e false) v (f t).1 refl refl l)
 
   pub delegate_node : (sp : Span) (e : Tree) → is_there e ≡ true → Good look e → 1 ≤ level e → Good look (yield_expr sp e true)
   delegate_node sp e t f h st s a =
@@ -140,7 +135,7 @@ module _ (look : Look) where
       (λ i. gaps look refl ▸ either (value Operated (unstarred e h)) (value Clear refl)) (λ i. absurd (true≢false (sym t ∙ i))))))
     where
       value : (u : State) → admits u e ≡ true → Steps (laid look Alone e) u (λ v. leaves st (yield_expr sp e true) v ≡ true)
-      value u q = ends (f Alone u q) (λ v l. last_leaves look st e (yield_expr sp e true) v h refl refl l)
+      value u q = ends (f Alone u q) (λ v l. operand_leaves st e (yield_expr sp e true) v h refl refl l)
 
   -- ---- 13.3.5 `new` with arguments
 
@@ -149,8 +144,8 @@ module _ (look : Look) where
       committed ▸ at (mark ▸ at (worded new_word (admits_word s (new_expr sp g (list xs)) a refl) ▸ at (gaps_or look (starts_with_word g) refl ▸ apart (λ n. callee Worded (worded_admits g n (expression_opens g h))) (callee Clear refl))))
     where
       bare : (xs : Trees) (v : State) → (formats look || (has_arguments (list xs) || is_head st)) ≡ false → leaves Head g v ≡ true → leaves st (new_expr sp g (list xs)) v ≡ true
-      bare none v n l = passes Head st g (new_expr sp g (list none)) v l (expression_plain g h) (λ e. refl) (λ e. ap (λ b. not b || (not (nat_le 17 19 || false))) (or_none (formats look) (is_head st) n).1)
-      bare (more t ts) v n l = absurd (true≢false (or_none (formats look) _ n).1)
+      bare none v n l = passes Head st g (new_expr sp g (list none)) v l (expression_plain g h) (λ e. refl) (λ e. ap (λ b. not b || (not (nat_le 17 19 || false))) (or_parts (formats look) (is_head st) n).1)
+      bare (more t ts) v n l = absurd (true≢false (or_parts (formats look) _ n).1)
 
       callee : (u : State) → admits u g ≡ true → Steps (laid look Head g · when (formats look || (has_arguments (list xs) || is_head st)) (in_parens (laid look Alone (list xs)))) u (λ v. leaves st (new_expr sp g (list xs)) v ≡ true)
       callee u q = f Head u q ▸ λ v l. when_goes (formats look || (has_arguments (list xs) || is_head st))

@@ -1,5 +1,6 @@
 -- The forms that productions share: where they produce tokens, their parts go well, as far as each part does that produces tokens.
 use Rattle.std.proofs.Common.{◌≡◌, ℕ, ◌⊎◌, inl, inr, Bool, true, false, ◌&&◌, ◌||◌, if◌then◌else◌, refl, sym, subst, true≢false}
+use Rattle.base_proofs.proofs.Bools.{and_second}
 use Rattle.tree_spec.specs.Tree.{Tree, Trees, none, more, absent, hole}
 use Rattle.base_token.specs.Kinds.{comma_kind}
 use Rattle.grammar_spec.specs.Tokens.Input.{Input, Code, Takes, turned_strict}
@@ -18,10 +19,6 @@ use Rattle.again_laws.specs.Tiling.Categories.{Clear, Fresh, Shut, State, Worded
 either : {A B C : Type 0} (b : Bool) → By b A B → (b ≡ true → A → C) → (b ≡ false → B → C) → C
 either true h f g = f refl h
 either false h f g = g refl h
-
-both_hold : (a b : Bool) → (a && b) ≡ true → b ≡ true
-both_hold true b e = e
-both_hold false b e = absurd (true≢false (sym e))
 
 pub not_absent : (b : Tree) → is_there b ≡ true → is_absent b ≡ false
 not_absent absent e = absurd (false≢true e)
@@ -94,7 +91,7 @@ module _ (look : Look) where
     pub listed : (holes : Bool) (c : Code) (close : ℕ) (xs : Trees) → AllSound xs → (ts r : Input) → Listed holes P c close (children xs) ts r → AllGood look xs
     listed holes c close none a ts r h = tt
     listed holes c close (more t xs) a ts r h = either (holes && is_hole t) h
-        (λ e k. (hole_good t (both_hold holes (is_hole t) e), listed holes c close xs a.1 k.0 r k.2))
+        (λ e k. (hole_good t (and_second holes (is_hole t) e), listed holes c close xs a.1 k.0 r k.2))
         (λ e k. (f t a.0 ts k.0 k.1, after holes c close t xs (λ n o l. listed holes c close xs a.1 n o l) k.0 r k.2))
 
     pub comma_then : (c : Code) (xs : Trees) → AllSound xs → (ts r : Input) → CommaThen P c (children xs) ts r → AllGood look xs

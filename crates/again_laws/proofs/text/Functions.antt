@@ -11,15 +11,15 @@ use Rattle.print_layout_spec.specs.declared.look.Stand.{Stand}
 use Rattle.print_layout_spec.specs.declared.look.Stand.TheVariants.{Alone, Body, Key}
 use Rattle.print_layout_spec.specs.Looks.{◌·◌, text, when, gap, blank}
 use Rattle.print_layout_spec.specs.Layout.{laid, separated, comma, function_tail, in_parens, word, is_bracketed_key}
-use Rattle.again_laws.specs.Tiling.Categories.{State, Fresh, Clear, Shut, Worded, Operated, Operator, is_open, is_end, is_wordless, blank_behind}
+use Rattle.again_laws.specs.Tiling.Categories.{State, Fresh, Clear, Shut, Worded, Operated, Operator, is_open, is_wordless, blank_behind}
 use Rattle.again_laws.proofs.text.Keywords.{async_word, function_word, get_word, set_word}
 use Rattle.again_laws.proofs.text.Marks.{left_paren, right_paren, times_mark}
-use Rattle.again_laws.proofs.text.Admits.{admits, leaves, admits_word, leaves_open, is_free, free_admits}
+use Rattle.again_laws.proofs.text.Admits.{admits, leaves, admits_word, leaves_open, is_free, free_admits, free_wordless, free_end}
 use Rattle.again_laws.proofs.text.Steps.{Steps, ◌▸◌, ends, at, either, mark, committed, text_by, shut, worded, blanks, when_goes, if_goes, gaps}
 use Rattle.again_laws.proofs.text.Forms.{Good, AllGood}
-use Rattle.again_laws.proofs.text.Names.{commas_go}
+use Rattle.again_laws.proofs.text.NamesAndCalls.{commas_go}
 use Rattle.again_laws.proofs.text.Statements.{AllItems, block_good, block_leaves}
-use Rattle.again_laws.proofs.text.Further.{marks_go, free_wordless}
+use Rattle.again_laws.proofs.text.VariablesAndMethods.{marks_go}
 use Rattle.again_laws.proofs.text.Patterns.{blank_open}
 
 module _ (look : Look) where
@@ -72,12 +72,6 @@ module _ (look : Look) where
   method_free Clear sp k f a = refl
   method_free Shut sp k f a = refl
   method_free _ sp k f a = absurd (false≢true a)
-
-  free_end : (u : State) → is_free u ≡ true → is_end u ≡ true
-  free_end Fresh e = refl
-  free_end Clear e = refl
-  free_end Shut e = refl
-  free_end _ e = absurd (false≢true e)
 
   pub method_node : (sp : Span) (k : Tree) (at' : Span) (ps ds : Trees) (b : Span) (ss : Trees) (g w : Bool) → Good look k → is_key k ≡ true → AllGood look ps → AllItems look ss → Good look (method_prop sp k (function at' ps ds (block_stmt b ss) g w))
   method_node sp k at' ps ds b ss g w f i a j st s d =

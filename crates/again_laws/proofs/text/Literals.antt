@@ -3,10 +3,9 @@ use Rattle.std.proofs.Common.{◌≡◌, ◌≢◌, ℕ, inl, inr, ⊎_elim, Boo
 use Rattle.std.specs.Prelude.{◌==◌, codes, encode_utf8_all}
 use Rattle.std.specs.Str.{chars, IsUtf8}
 use Rattle.std.proofs.lemmas.Str.{chars-encodes}
-use Rattle.std.proofs.lemmas.Bool.{cases_Bool, false≢true, and_parts, not-true, or_cases, eqb-true, eq-eqb}
+use Rattle.std.proofs.lemmas.Bool.{cases_Bool, false≢true, and_parts, not-true, or_cases, eqb-true, eq-eqb, or_parts, or_from}
 use Rattle.std.proofs.lemmas.List.{append-nil}
 use lib.Utf8.{scalars}
-use Rattle.unicode_ident.proofs.Computing.{unicode_ident}
 use Rattle.lex_pieces.specs.Characters.{is_among, is_name_part, is_white_space, is_line_terminator, white_space, line_terminators}
 use Rattle.lex_pieces.specs.Classes.{is_line_char}
 use Rattle.lex_pieces.proofs.Apart.{among_passes}
@@ -32,7 +31,8 @@ use Rattle.again_laws.specs.Tiling.Categories.{Category, Word, Number, Big, Memb
 use Rattle.again_laws.specs.Tiling.Following.{Front, Starts, is_wordy, is_dotty, is_safe, never, Needs, QuietUnder, Quiet}
 use Rattle.again_laws.specs.Tiling.Goes.{Fits}
 use Rattle.again_laws.proofs.tiling.Marks.{quiet_plain, is_lead, not_first}
-use Rattle.again_laws.proofs.text.Words.{word_fits, or_none, both_false}
+use Rattle.again_laws.proofs.text.Words.{word_fits}
+use Rattle.again_laws.proofs.tiling.Wordless.{wordless}
 
 -- ---- bytes of characters
 
@@ -55,18 +55,10 @@ name_fits text name e r =
 
 -- ---- strings (12.9.4)
 
-wordy_34 : is_wordy 34 ≡ false
-unfolding unicode_ident
-wordy_34 = refl
-
-wordy_39 : is_wordy 39 ≡ false
-unfolding unicode_ident
-wordy_39 = refl
-
 quote_safe : (c : ℕ) → is_quote c ≡ true → (is_safe c ≡ true) × (is_dotty c ≡ false) × (is_wordy c ≡ false) × (is_lead c ≡ false)
 quote_safe c e = ⊎_elim
-    (λ (t : (c == 34) ≡ true). subst (λ (n : ℕ). (is_safe n ≡ true) × (is_dotty n ≡ false) × (is_wordy n ≡ false) × (is_lead n ≡ false)) (sym (eqb-true c 34 t)) (refl, refl, wordy_34, refl))
-    (λ (t : (c == 39) ≡ true). subst (λ (n : ℕ). (is_safe n ≡ true) × (is_dotty n ≡ false) × (is_wordy n ≡ false) × (is_lead n ≡ false)) (sym (eqb-true c 39 t)) (refl, refl, wordy_39, refl))
+    (λ (t : (c == 34) ≡ true). subst (λ (n : ℕ). (is_safe n ≡ true) × (is_dotty n ≡ false) × (is_wordy n ≡ false) × (is_lead n ≡ false)) (sym (eqb-true c 34 t)) (refl, refl, (wordless 34 refl), refl))
+    (λ (t : (c == 39) ≡ true). subst (λ (n : ℕ). (is_safe n ≡ true) × (is_dotty n ≡ false) × (is_wordy n ≡ false) × (is_lead n ≡ false)) (sym (eqb-true c 39 t)) (refl, refl, (wordless 39 refl), refl))
     (or_cases (c == 34) (c == 39) e)
 
 pub string_fits : (text units : List ℕ) (legacy : Bool) → scalars text ≡ true → ((rest : List ℕ) → SpellsString units legacy (text ++ rest) rest) → Fits Div (encode_utf8_all text) Str
@@ -117,11 +109,11 @@ not_among ns c e h = ⊎_elim
 
 decimal_safe : (c : ℕ) → is_decimal c ≡ true → (is_safe c ≡ true) × (is_lead c ≡ false)
 decimal_safe c h =
-    let a = or_none (c == 47) _ (not_among (47 ∷ 60 ∷ 45 ∷ []) c leads_no h) in
-    let b = or_none (c == 60) _ a.1 in
-    let d = or_none (c == 45) false b.1 in (
+    let a = or_parts (c == 47) _ (not_among (47 ∷ 60 ∷ 45 ∷ []) c leads_no h) in
+    let b = or_parts (c == 60) _ a.1 in
+    let d = or_parts (c == 45) false b.1 in (
       ap not (not_among (33 ∷ 35 ∷ 38 ∷ 42 ∷ 43 ∷ 45 ∷ 47 ∷ 60 ∷ 61 ∷ 62 ∷ 63 ∷ 124 ∷ []) c unsafe_no h),
-      both_false (is_white_space c) _ (not_among white_space c white_no h) (both_false (is_line_terminator c) _ (not_among line_terminators c terminators_no h) (both_false (c == 47) _ a.0 (both_false (c == 60) _ b.0 d.0))),
+      or_from (is_white_space c) _ (not_among white_space c white_no h) (or_from (is_line_terminator c) _ (not_among line_terminators c terminators_no h) (or_from (c == 47) _ a.0 (or_from (c == 60) _ b.0 d.0))),
     )
 
 number_safe : (text : List ℕ) → is_number_start text ≡ true → (c : ℕ) × (ds : List ℕ) × (text ≡ c ∷ ds) × (is_safe c ≡ true) × (is_lead c ≡ false)
@@ -134,7 +126,7 @@ number_safe (c ∷ cs) e = ⊎_elim
 
 barred_wordy : (cs : List ℕ) → Ends is_wordy cs → Ends is_barred cs
 barred_wordy [] h = tt
-barred_wordy (c ∷ cs) h = (or_none (is_continuing c) (is_barred c) h).1
+barred_wordy (c ∷ cs) h = (or_parts (is_continuing c) (is_barred c) h).1
 
 ends_begins : (p : ℕ → Bool) (cs : List ℕ) → Ends p cs → begins p cs ≡ false
 ends_begins p [] h = refl
@@ -185,13 +177,13 @@ body_front body h = by h.0 h.1 h.2 h.3
     by (One (Bare c) ∷ ps) n e k =
         let p = and_parts (is_line_char c) _ e.0 in
         let q = and_parts (not (is_among (47 ∷ 91 ∷ 92 ∷ []) c)) _ p.1 in
-        (c, spelled_parts ps [], k, (or_none (c == 47) _ (not-true _ q.0)).0, not-true (c == 42) q.1)
+        (c, spelled_parts ps [], k, (or_parts (c == 47) _ (not-true _ q.0)).0, not-true (c == 42) q.1)
     by (One (Escaped c) ∷ ps) n e k = (92, c ∷ spelled_parts ps [], k, refl, refl)
     by (ClassPart ms ∷ ps) n e k = (91, _, k, refl, refl)
 
 part_wordy : (cs : List ℕ) → Ends is_wordy cs → Ends is_name_part cs
 part_wordy [] h = tt
-part_wordy (c ∷ cs) h = (or_none (is_name_part c) (c == 92) (or_none (is_continuing c) (is_barred c) h).0).0
+part_wordy (c ∷ cs) h = (or_parts (is_name_part c) (c == 92) (or_parts (is_continuing c) (is_barred c) h).0).0
 
 pub regex_fits : (bytes body flags : List ℕ) → IsUtf8 bytes → chars bytes ≡ 47 ∷ body ++ 47 ∷ flags → IsBody body → Each is_name_part flags
     → Fits RegExp bytes Regex

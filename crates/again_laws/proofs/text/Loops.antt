@@ -1,7 +1,7 @@
 -- Loops, `switch`, `try` and the other statements.
 use Rattle.std.proofs.Common.{◌≡◌, ℕ, ◌≤◌, ◌⊎◌, inl, inr, ⊎_elim, Bool, true, false, ◌&&◌, ◌||◌, not, List, refl, sym, ap, subst, ◌∙◌}
 use Rattle.std.specs.Prelude.{◌==◌, codes}
-use Rattle.std.proofs.lemmas.Bool.{false≢true, eqb-true, or_cases}
+use Rattle.std.proofs.lemmas.Bool.{false≢true, eqb-true, or_cases, and_right, and_from}
 use Rattle.unicode_ident.proofs.Computing.{unicode_ident}
 use Rattle.base_token.specs.declared.place.Span.{Span}
 use Rattle.base_token.specs.Words.{own_text}
@@ -23,12 +23,12 @@ use Rattle.again_laws.proofs.tokens.PlainWords.{is_plain_word, are_parts}
 use Rattle.again_laws.proofs.text.Words.{keyword}
 use Rattle.again_laws.proofs.text.Keywords.{debugger_word, with_word, break_word, continue_word, switch_word, case_word, default_word, throw_word, try_word, catch_word, finally_word, while_word, do_word, for_word, await_word, of_word, using_word}
 use Rattle.again_laws.proofs.text.Marks.{left_paren, right_paren, left_brace, colon_mark}
-use Rattle.again_laws.proofs.text.Admits.{admits, leaves, is_ended, is_nothing, worded_admits, expression_opens, admits_open, admits_word, leaves_open, leaves_wordless, is_free, free_admits, free_open, both_true, and_false}
+use Rattle.again_laws.proofs.text.Admits.{admits, leaves, is_ended, is_nothing, worded_admits, expression_opens, admits_open, admits_word, leaves_open, leaves_wordless, is_free, free_admits, free_open, free_wordless}
 use Rattle.again_laws.proofs.text.Steps.{Steps, At, ◌▸◌, ends, at, either, apart, mark, committed, nil, shut, worded, braced, blanks, semicolons, when_goes, if_goes, gaps, gaps_or, lines, deepens, comes_back}
 use Rattle.again_laws.proofs.text.Forms.{Good}
-use Rattle.again_laws.proofs.text.Names.{leaving}
+use Rattle.again_laws.proofs.text.NamesAndCalls.{leaving}
 use Rattle.again_laws.proofs.text.Statements.{Item, AllItems, closes, free_line, rows_go, item_opens, block_good}
-use Rattle.again_laws.proofs.text.Further.{free_wordless, blank_free, AllDeclared, declared_go}
+use Rattle.again_laws.proofs.text.VariablesAndMethods.{blank_free, AllDeclared, declared_go}
 use Rattle.again_laws.proofs.text.Patterns.{first_admits}
 
 -- ---- what is left behind a statement, a case, a member
@@ -41,7 +41,7 @@ free_leaves st t Shut h e = refl
 free_leaves st t _ h e = absurd (false≢true e)
 
 pub ended_leaves : (st : Stand) (t : Tree) (v : State) → is_ended t ≡ true → leaves st t v ≡ true → is_free v ≡ true
-ended_leaves st t v h l = leaves_wordless st t v (ap (λ b. ends_with_word t && not b) h ∙ and_false (ends_with_word t) false refl) l
+ended_leaves st t v h l = leaves_wordless st t v (ap (λ b. ends_with_word t && not b) h ∙ and_right (ends_with_word t) false refl) l
 
 pub var_text : (k : ℕ) → is_var_word k ≡ true → Fits Div (own_text k) Word
 unfolding own_text is_plain_word are_parts unicode_ident
@@ -169,7 +169,7 @@ module _ (look : Look) where
   using_node sp w t ts a st s q =
       committed ▸ at (when_goes {P = λ u. is_wordless u ≡ true} w (λ e. worded await_word (admits_word s (using_decl sp w (more t ts)) q refl) ▸ at (ends (blanks refl) (λ u z. ap is_wordless z))) (λ e. admits_word s (using_decl sp w (more t ts)) q refl) ▸ λ u o.
       worded using_word o ▸ at (blanks refl ▸ at (declared_go look ts t Clear a refl (using_decl sp w (more t ts)) st
-      (λ e. both_true (ends_with_word (using_decl sp w (more t ts))) (not (is_ended (using_decl sp w (more t ts)))) e refl) refl)))
+      (λ e. and_from (ends_with_word (using_decl sp w (more t ts))) (not (is_ended (using_decl sp w (more t ts)))) e refl) refl)))
 
   -- ---- `switch`
 

@@ -1,8 +1,8 @@
 -- Punctuators and operators are tokens of their categories (ECMA-262, 12.8).
 use Rattle.std.proofs.Common.{◌≡◌, ℕ, Bool, true, false, List, [], ◌∷◌, ◌++◌, Some, refl, sym, ap, ◌∙◌}
 use Rattle.std.specs.Prelude.{◌==◌, codes}
-use Rattle.std.proofs.lemmas.Bool.{false≢true, eq-eqb}
-use Rattle.unicode_ident.proofs.Computing.{unicode_ident}
+use Rattle.std.proofs.lemmas.Bool.{false≢true, eq-eqb, or_parts}
+use Rattle.base_proofs.proofs.Lists.{cons_tail}
 use Rattle.base_token.specs.declared.token.TokenKind.{TokenKind}
 use Rattle.base_token.specs.declared.token.TokenKind.TheVariants as t
 use Rattle.base_token.specs.declared.operator.BinOpToken.TheVariants as b
@@ -19,67 +19,36 @@ use Rattle.again_laws.proofs.tokens.Punctuators.{look, stays, all_stay}
 use Rattle.again_laws.specs.Tiling.Categories.{Plus, Incr, Minus, Decr, Bang, Slash, Less, Dot, Dots, Operator, Arrow, Hash, Closed}
 use Rattle.again_laws.specs.Tiling.Following.{Quiet, Arrowless, is_wordy, is_dotty, is_joining, never, not_hash}
 use Rattle.again_laws.specs.Tiling.Goes.{Fits}
-use Rattle.again_laws.proofs.tiling.Marks.{or_none, not_first, tail_is, quiet_plain, is_lead, mark_fits, no_dot, plain_mark, never_ends, closed_mark}
-
-wordy_40 : is_wordy 40 ≡ false
-unfolding unicode_ident
-wordy_40 = refl
-
-wordy_41 : is_wordy 41 ≡ false
-unfolding unicode_ident
-wordy_41 = refl
+use Rattle.again_laws.proofs.tiling.Marks.{not_first, quiet_plain, is_lead, mark_fits, no_dot, plain_mark, never_ends, closed_mark}
+use Rattle.again_laws.proofs.tiling.Wordless.{wordless}
 
 pub left_paren : Fits Div (codes "(") Closed
 unfolding look stays all_stay
-left_paren = closed_mark 40 t.LParen refl refl refl refl refl refl refl wordy_40
+left_paren = closed_mark 40 t.LParen refl refl refl refl refl refl refl (wordless 40 refl)
 
 pub right_paren : Fits Div (codes ")") Closed
 unfolding look stays all_stay
-right_paren = closed_mark 41 t.RParen refl refl refl refl refl refl refl wordy_41
-
-wordy_123 : is_wordy 123 ≡ false
-unfolding unicode_ident
-wordy_123 = refl
-
-wordy_91 : is_wordy 91 ≡ false
-unfolding unicode_ident
-wordy_91 = refl
-
-wordy_93 : is_wordy 93 ≡ false
-unfolding unicode_ident
-wordy_93 = refl
-
-wordy_44 : is_wordy 44 ≡ false
-unfolding unicode_ident
-wordy_44 = refl
-
-wordy_126 : is_wordy 126 ≡ false
-unfolding unicode_ident
-wordy_126 = refl
-
-wordy_35 : is_wordy 35 ≡ false
-unfolding unicode_ident
-wordy_35 = refl
+right_paren = closed_mark 41 t.RParen refl refl refl refl refl refl refl (wordless 41 refl)
 
 pub left_brace : Fits Div (codes "{") Closed
 unfolding look stays all_stay
-left_brace = closed_mark 123 t.LBrace refl refl refl refl refl refl refl wordy_123
+left_brace = closed_mark 123 t.LBrace refl refl refl refl refl refl refl (wordless 123 refl)
 
 pub left_bracket : Fits Div (codes "[") Closed
 unfolding look stays all_stay
-left_bracket = closed_mark 91 t.LBracket refl refl refl refl refl refl refl wordy_91
+left_bracket = closed_mark 91 t.LBracket refl refl refl refl refl refl refl (wordless 91 refl)
 
 pub right_bracket : Fits Div (codes "]") Closed
 unfolding look stays all_stay
-right_bracket = closed_mark 93 t.RBracket refl refl refl refl refl refl refl wordy_93
+right_bracket = closed_mark 93 t.RBracket refl refl refl refl refl refl refl (wordless 93 refl)
 
 pub comma_mark : Fits Div (codes ",") Closed
 unfolding look stays all_stay
-comma_mark = closed_mark 44 t.Comma refl refl refl refl refl refl refl wordy_44
+comma_mark = closed_mark 44 t.Comma refl refl refl refl refl refl refl (wordless 44 refl)
 
 pub tilde_mark : Fits Div (codes "~") Closed
 unfolding look stays all_stay
-tilde_mark = closed_mark 126 t.Tilde refl refl refl refl refl refl refl wordy_126
+tilde_mark = closed_mark 126 t.Tilde refl refl refl refl refl refl refl (wordless 126 refl)
 
 pub hash_mark : Fits Div (codes "#") Hash
 unfolding look stays all_stay
@@ -99,69 +68,29 @@ led_mark c cs kind asc e a p d o w q =
     mark_fits is_joining (c ∷ cs) kind Operator asc e a (λ rest h. h) (no_dot c (cs ++ []) p) (λ rest h. no_dot c (cs ++ rest) p)
     (record { first = c; others = cs; whole = refl; one = o; two = d; three = w }) (λ rest h. q rest)
 
-wordy_61 : is_wordy 61 ≡ false
-unfolding unicode_ident
-wordy_61 = refl
-
-wordy_42 : is_wordy 42 ≡ false
-unfolding unicode_ident
-wordy_42 = refl
-
-wordy_62 : is_wordy 62 ≡ false
-unfolding unicode_ident
-wordy_62 = refl
-
-wordy_60 : is_wordy 60 ≡ false
-unfolding unicode_ident
-wordy_60 = refl
-
-wordy_63 : is_wordy 63 ≡ false
-unfolding unicode_ident
-wordy_63 = refl
-
-wordy_38 : is_wordy 38 ≡ false
-unfolding unicode_ident
-wordy_38 = refl
-
-wordy_124 : is_wordy 124 ≡ false
-unfolding unicode_ident
-wordy_124 = refl
-
-wordy_33 : is_wordy 33 ≡ false
-unfolding unicode_ident
-wordy_33 = refl
-
-wordy_37 : is_wordy 37 ≡ false
-unfolding unicode_ident
-wordy_37 = refl
-
-wordy_94 : is_wordy 94 ≡ false
-unfolding unicode_ident
-wordy_94 = refl
-
 pub times_mark : Fits Div (codes "*") Operator
 unfolding look stays all_stay
-times_mark = operator_mark 42 [] (t.BinOp b.Mul) refl refl refl refl refl refl refl wordy_42
+times_mark = operator_mark 42 [] (t.BinOp b.Mul) refl refl refl refl refl refl refl (wordless 42 refl)
 
 pub power_mark : Fits Div (codes "**") Operator
 unfolding look stays all_stay
-power_mark = operator_mark 42 (42 ∷ []) (t.BinOp b.Exp) refl refl refl refl refl refl refl wordy_42
+power_mark = operator_mark 42 (42 ∷ []) (t.BinOp b.Exp) refl refl refl refl refl refl refl (wordless 42 refl)
 
 pub equal_mark : Fits Div (codes "==") Operator
 unfolding look stays all_stay
-equal_mark = operator_mark 61 (61 ∷ []) (t.BinOp b.EqEq) refl refl refl refl refl refl refl wordy_61
+equal_mark = operator_mark 61 (61 ∷ []) (t.BinOp b.EqEq) refl refl refl refl refl refl refl (wordless 61 refl)
 
 pub greater_mark : Fits Div (codes ">") Operator
 unfolding look stays all_stay
-greater_mark = operator_mark 62 [] (t.BinOp b.Gt) refl refl refl refl refl refl refl wordy_62
+greater_mark = operator_mark 62 [] (t.BinOp b.Gt) refl refl refl refl refl refl refl (wordless 62 refl)
 
 pub shift_left_mark : Fits Div (codes "<<") Operator
 unfolding look stays all_stay
-shift_left_mark = led_mark 60 (60 ∷ []) (t.BinOp b.LShift) refl refl refl refl refl refl wordy_60 (λ rest. (record { white = refl; line = refl; slashes = λ inner. not_first 60 47 (60 ∷ rest) (47 ∷ inner) refl; block = λ inner. not_first 60 47 (60 ∷ rest) (42 ∷ inner) refl; html = λ inner e. not_first 60 33 rest (45 ∷ 45 ∷ inner) refl (tail_is 60 (60 ∷ rest) (33 ∷ 45 ∷ 45 ∷ inner) e) }, λ inner. not_first 60 45 (60 ∷ rest) (45 ∷ 62 ∷ inner) refl))
+shift_left_mark = led_mark 60 (60 ∷ []) (t.BinOp b.LShift) refl refl refl refl refl refl (wordless 60 refl) (λ rest. (record { white = refl; line = refl; slashes = λ inner. not_first 60 47 (60 ∷ rest) (47 ∷ inner) refl; block = λ inner. not_first 60 47 (60 ∷ rest) (42 ∷ inner) refl; html = λ inner e. not_first 60 33 rest (45 ∷ 45 ∷ inner) refl (cons_tail 60 60 (60 ∷ rest) (33 ∷ 45 ∷ 45 ∷ inner) e) }, λ inner. not_first 60 45 (60 ∷ rest) (45 ∷ 62 ∷ inner) refl))
 
 pub arrow_mark : Fits Div (codes "=>") Arrow
 unfolding look stays all_stay
-arrow_mark = plain_mark never 61 (62 ∷ []) t.Arrow Arrow refl refl refl refl refl (λ rest h. never_ends rest) (record { first = 61; others = 62 ∷ []; whole = refl; one = refl; two = refl; three = wordy_61 })
+arrow_mark = plain_mark never 61 (62 ∷ []) t.Arrow Arrow refl refl refl refl refl (λ rest h. never_ends rest) (record { first = 61; others = 62 ∷ []; whole = refl; one = refl; two = refl; three = (wordless 61 refl) })
 
 bang_stay : ℕ → Bool
 bang_stay c = is_among (61 ∷ []) c
@@ -180,7 +109,7 @@ increment_mark = plain_mark never 43 (43 ∷ []) t.PlusPlus Incr refl refl refl 
 
 second_not : (c d : ℕ) (rest inner : List ℕ) → (c == d) ≡ false → Ends (is_among (d ∷ 61 ∷ [])) rest → c ∷ rest ≡ c ∷ d ∷ inner → ⊥
 second_not c d [] inner f h e = let k : [] ≡ d ∷ inner = cc in cc
-second_not c d (x ∷ xs) inner f h e = let k : x ≡ d = cc in false≢true (sym (or_none (x == d) _ h).0 ∙ eq-eqb x d k)
+second_not c d (x ∷ xs) inner f h e = let k : x ≡ d = cc in false≢true (sym (or_parts (x == d) _ h).0 ∙ eq-eqb x d k)
 
 pub minus_mark : Fits Div (codes "-") Minus
 unfolding look stays all_stay
@@ -189,7 +118,7 @@ minus_mark = mark_fits (is_among (45 ∷ 61 ∷ [])) (45 ∷ []) (t.BinOp b.Sub)
   where
     one_minus : (rest inner : List ℕ) → Ends (is_among (45 ∷ 61 ∷ [])) rest → 45 ∷ rest ≡ 45 ∷ 45 ∷ inner → ⊥
     one_minus [] inner h e = let k : [] ≡ 45 ∷ inner = cc in cc
-    one_minus (x ∷ xs) inner h e = let k : x ≡ 45 = cc in false≢true (sym (or_none (x == 45) _ h).0 ∙ eq-eqb x 45 k)
+    one_minus (x ∷ xs) inner h e = let k : x ≡ 45 = cc in false≢true (sym (or_parts (x == 45) _ h).0 ∙ eq-eqb x 45 k)
 
 pub decrement_mark : Fits Div (codes "--") Decr
 unfolding look stays all_stay
@@ -208,7 +137,7 @@ slash_mark = mark_fits (is_among (47 ∷ 42 ∷ 61 ∷ [])) (47 ∷ []) (t.BinOp
 pub less_mark : Fits Div (codes "<") Less
 unfolding look stays all_stay
 less_mark = mark_fits (is_among (60 ∷ 61 ∷ [])) (60 ∷ []) (t.BinOp b.Lt) Less refl refl refl (λ rest h. h.0) (no_dot 60 [] refl) (λ rest h. no_dot 60 rest refl) refl
-    (λ rest h. (record { white = refl; line = refl; slashes = λ inner. not_first 60 47 rest (47 ∷ inner) refl; block = λ inner. not_first 60 47 rest (42 ∷ inner) refl; html = λ inner e. h.1 inner (tail_is 60 rest (33 ∷ 45 ∷ 45 ∷ inner) e) }, λ inner. not_first 60 45 rest (45 ∷ 62 ∷ inner) refl))
+    (λ rest h. (record { white = refl; line = refl; slashes = λ inner. not_first 60 47 rest (47 ∷ inner) refl; block = λ inner. not_first 60 47 rest (42 ∷ inner) refl; html = λ inner e. h.1 inner (cons_tail 60 60 rest (33 ∷ 45 ∷ 45 ∷ inner) e) }, λ inner. not_first 60 45 rest (45 ∷ 62 ∷ inner) refl))
 
 pub dot_mark : Fits Div (codes ".") Dot
 unfolding look stays all_stay
@@ -220,7 +149,7 @@ dot_mark = mark_fits is_dotty (46 ∷ []) t.Dot Dot refl refl refl (λ rest h. h
     by (x ∷ xs) h d =
         let e : 46 ∷ x ∷ xs ≡ 46 ∷ d.0 ∷ d.1 = d.2 in
         let k : x ≡ d.0 = cc in
-        false≢true (sym (or_none (is_point x) (is_decimal x) h).1 ∙ (ap is_decimal k ∙ (sym (one_digit d.0) ∙ d.3)))
+        false≢true (sym (or_parts (is_point x) (is_decimal x) h).1 ∙ (ap is_decimal k ∙ (sym (one_digit d.0) ∙ d.3)))
 
 pub dots_mark : Fits Div (codes "...") Dots
 unfolding look stays all_stay
@@ -232,81 +161,73 @@ dots_mark = mark_fits never (46 ∷ 46 ∷ 46 ∷ []) t.DotDotDot Dots refl refl
 
 pub not_equal_mark : Fits Div (codes "!=") Operator
 unfolding look stays all_stay
-not_equal_mark = operator_mark 33 (61 ∷ []) (t.BinOp b.NotEq) refl refl refl refl refl refl refl wordy_33
+not_equal_mark = operator_mark 33 (61 ∷ []) (t.BinOp b.NotEq) refl refl refl refl refl refl refl (wordless 33 refl)
 
 pub same_mark : Fits Div (codes "===") Operator
 unfolding look stays all_stay
-same_mark = operator_mark 61 (61 ∷ 61 ∷ []) (t.BinOp b.EqEqEq) refl refl refl refl refl refl refl wordy_61
+same_mark = operator_mark 61 (61 ∷ 61 ∷ []) (t.BinOp b.EqEqEq) refl refl refl refl refl refl refl (wordless 61 refl)
 
 pub not_same_mark : Fits Div (codes "!==") Operator
 unfolding look stays all_stay
-not_same_mark = operator_mark 33 (61 ∷ 61 ∷ []) (t.BinOp b.NotEqEq) refl refl refl refl refl refl refl wordy_33
+not_same_mark = operator_mark 33 (61 ∷ 61 ∷ []) (t.BinOp b.NotEqEq) refl refl refl refl refl refl refl (wordless 33 refl)
 
 pub greater_equal_mark : Fits Div (codes ">=") Operator
 unfolding look stays all_stay
-greater_equal_mark = operator_mark 62 (61 ∷ []) (t.BinOp b.GtEq) refl refl refl refl refl refl refl wordy_62
+greater_equal_mark = operator_mark 62 (61 ∷ []) (t.BinOp b.GtEq) refl refl refl refl refl refl refl (wordless 62 refl)
 
 pub shift_right_mark : Fits Div (codes ">>") Operator
 unfolding look stays all_stay
-shift_right_mark = operator_mark 62 (62 ∷ []) (t.BinOp b.RShift) refl refl refl refl refl refl refl wordy_62
+shift_right_mark = operator_mark 62 (62 ∷ []) (t.BinOp b.RShift) refl refl refl refl refl refl refl (wordless 62 refl)
 
 pub zero_fill_mark : Fits Div (codes ">>>") Operator
 unfolding look stays all_stay
-zero_fill_mark = operator_mark 62 (62 ∷ 62 ∷ []) (t.BinOp b.ZeroFillRShift) refl refl refl refl refl refl refl wordy_62
+zero_fill_mark = operator_mark 62 (62 ∷ 62 ∷ []) (t.BinOp b.ZeroFillRShift) refl refl refl refl refl refl refl (wordless 62 refl)
 
 pub rest_mark : Fits Div (codes "%") Operator
 unfolding look stays all_stay
-rest_mark = operator_mark 37 [] (t.BinOp b.Mod) refl refl refl refl refl refl refl wordy_37
+rest_mark = operator_mark 37 [] (t.BinOp b.Mod) refl refl refl refl refl refl refl (wordless 37 refl)
 
 pub bit_or_mark : Fits Div (codes "|") Operator
 unfolding look stays all_stay
-bit_or_mark = operator_mark 124 [] (t.BinOp b.BitOr) refl refl refl refl refl refl refl wordy_124
+bit_or_mark = operator_mark 124 [] (t.BinOp b.BitOr) refl refl refl refl refl refl refl (wordless 124 refl)
 
 pub bit_xor_mark : Fits Div (codes "^") Operator
 unfolding look stays all_stay
-bit_xor_mark = operator_mark 94 [] (t.BinOp b.BitXor) refl refl refl refl refl refl refl wordy_94
+bit_xor_mark = operator_mark 94 [] (t.BinOp b.BitXor) refl refl refl refl refl refl refl (wordless 94 refl)
 
 pub bit_and_mark : Fits Div (codes "&") Operator
 unfolding look stays all_stay
-bit_and_mark = operator_mark 38 [] (t.BinOp b.BitAnd) refl refl refl refl refl refl refl wordy_38
+bit_and_mark = operator_mark 38 [] (t.BinOp b.BitAnd) refl refl refl refl refl refl refl (wordless 38 refl)
 
 pub or_mark : Fits Div (codes "||") Operator
 unfolding look stays all_stay
-or_mark = operator_mark 124 (124 ∷ []) (t.BinOp b.LogicalOr) refl refl refl refl refl refl refl wordy_124
+or_mark = operator_mark 124 (124 ∷ []) (t.BinOp b.LogicalOr) refl refl refl refl refl refl refl (wordless 124 refl)
 
 pub and_mark : Fits Div (codes "&&") Operator
 unfolding look stays all_stay
-and_mark = operator_mark 38 (38 ∷ []) (t.BinOp b.LogicalAnd) refl refl refl refl refl refl refl wordy_38
+and_mark = operator_mark 38 (38 ∷ []) (t.BinOp b.LogicalAnd) refl refl refl refl refl refl refl (wordless 38 refl)
 
 pub coalesce_mark : Fits Div (codes "??") Operator
 unfolding look stays all_stay
-coalesce_mark = operator_mark 63 (63 ∷ []) (t.BinOp b.NullishCoalescing) refl refl refl refl refl refl refl wordy_63
+coalesce_mark = operator_mark 63 (63 ∷ []) (t.BinOp b.NullishCoalescing) refl refl refl refl refl refl refl (wordless 63 refl)
 
 pub question_mark : Fits Div (codes "?") Operator
 unfolding look stays all_stay
-question_mark = operator_mark 63 [] (t.QuestionMark) refl refl refl refl refl refl refl wordy_63
+question_mark = operator_mark 63 [] (t.QuestionMark) refl refl refl refl refl refl refl (wordless 63 refl)
 
 pub equals_mark : Fits Div (codes "=") Operator
 unfolding look stays all_stay
-equals_mark = operator_mark 61 [] (t.AssignOp a.Assign) refl refl refl refl refl refl refl wordy_61
+equals_mark = operator_mark 61 [] (t.AssignOp a.Assign) refl refl refl refl refl refl refl (wordless 61 refl)
 
 pub less_equal_mark : Fits Div (codes "<=") Operator
 unfolding look stays all_stay
-less_equal_mark = led_mark 60 (61 ∷ []) (t.BinOp b.LtEq) refl refl refl refl refl refl wordy_60 (λ rest. (record { white = refl; line = refl; slashes = λ inner. not_first 60 47 (61 ∷ rest) (47 ∷ inner) refl; block = λ inner. not_first 60 47 (61 ∷ rest) (42 ∷ inner) refl; html = λ inner e. not_first 61 33 rest (45 ∷ 45 ∷ inner) refl (tail_is 60 (61 ∷ rest) (33 ∷ 45 ∷ 45 ∷ inner) e) }, λ inner. not_first 60 45 (61 ∷ rest) (45 ∷ 62 ∷ inner) refl))
-
-wordy_58 : is_wordy 58 ≡ false
-unfolding unicode_ident
-wordy_58 = refl
+less_equal_mark = led_mark 60 (61 ∷ []) (t.BinOp b.LtEq) refl refl refl refl refl refl (wordless 60 refl) (λ rest. (record { white = refl; line = refl; slashes = λ inner. not_first 60 47 (61 ∷ rest) (47 ∷ inner) refl; block = λ inner. not_first 60 47 (61 ∷ rest) (42 ∷ inner) refl; html = λ inner e. not_first 61 33 rest (45 ∷ 45 ∷ inner) refl (cons_tail 60 60 (61 ∷ rest) (33 ∷ 45 ∷ 45 ∷ inner) e) }, λ inner. not_first 60 45 (61 ∷ rest) (45 ∷ 62 ∷ inner) refl))
 
 pub colon_mark : Fits Div (codes ":") Closed
 unfolding look stays all_stay
-colon_mark = closed_mark 58 t.Colon refl refl refl refl refl refl refl wordy_58
-
-wordy_64 : is_wordy 64 ≡ false
-unfolding unicode_ident
-wordy_64 = refl
+colon_mark = closed_mark 58 t.Colon refl refl refl refl refl refl refl (wordless 58 refl)
 
 -- before a decorator
 pub at_mark : Fits Div (codes "@") Closed
 unfolding look stays all_stay
-at_mark = closed_mark 64 t.At refl refl refl refl refl refl refl wordy_64
+at_mark = closed_mark 64 t.At refl refl refl refl refl refl refl (wordless 64 refl)

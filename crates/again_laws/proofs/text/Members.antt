@@ -19,10 +19,10 @@ use Rattle.again_laws.proofs.text.Keywords.{import_word, super_word}
 use Rattle.again_laws.proofs.text.Marks.{dots_mark, left_paren, right_paren}
 use Rattle.again_laws.proofs.text.Admits.{admits, admits_word, expression_plain, head_admits, is_number, leaves, leaves_dot, leaves_end, leaves_open, loose_admits, passes}
 use Rattle.again_laws.proofs.text.Forms.{AllGood, Good, Sound}
-use Rattle.again_laws.proofs.text.Names.{WordKey, bracketed, by_laid, commas_go, head_numeric, key_leaves, leaving, member_bracket, member_word, no_point, point, word_key}
+use Rattle.again_laws.proofs.text.NamesAndCalls.{WordKey, bracketed, by_laid, commas_go, head_numeric, key_leaves, leaving, member_bracket, member_word, no_point, point, word_key}
 use Rattle.again_laws.proofs.text.Primaries.{optional}
 use Rattle.again_laws.proofs.text.Steps.{At, Steps, at, committed, ends, if_goes, mark, nil, shut, text_by, when_goes, worded, ◌▸◌}
-use Rattle.again_laws.proofs.text.Values.{Quasis, number_admits, template_at}
+use Rattle.again_laws.proofs.text.LiteralNodes.{Quasis, number_admits, template_at}
 use Rattle.again_laws.specs.Tiling.Categories.{Clear, Dots, Dotted, Fresh, Member, Number, Numbered, Operated, Shut, State, Worded, is_digitless, is_open, is_wordless, takes}
 use Rattle.again_laws.specs.Tiling.Goes.{Fits}
 

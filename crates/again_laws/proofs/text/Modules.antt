@@ -1,7 +1,7 @@
 -- Imports and exports.
 use Rattle.std.proofs.Common.{◌≡◌, ℕ, ◌≤◌, inl, inr, ⊎_elim, Bool, true, false, ◌&&◌, ◌||◌, not, refl, sym, ap, ◌∙◌}
 use Rattle.std.specs.Prelude.{nat_le, codes, if◌then◌else◌, is_some}
-use Rattle.std.proofs.lemmas.Bool.{false≢true, true≢false}
+use Rattle.std.proofs.lemmas.Bool.{false≢true, true≢false, or_right}
 use Rattle.base_token.specs.declared.place.Span.{Span}
 use Rattle.tree_spec.specs.Tree.{Tree, Trees, none, more, import_decl, export_decl, named_export, export_default_decl, export_default_expr, export_all, import_named_specifier, import_default_specifier, import_star_as_specifier, export_namespace_specifier, export_named_specifier, class_expr, class_decl, class, fn_expr, fn_decl, function, var_decl, block_stmt, debugger_stmt, ident, str_lit, object_lit, absent}
 use Rattle.grammar_spec.specs.Tokens.Operators.{unary_level}
@@ -17,16 +17,17 @@ use Rattle.again_laws.specs.Tiling.Categories.{State, Fresh, Clear, Shut, Worded
 use Rattle.again_laws.specs.Tiling.Goes.{Fits}
 use Rattle.again_laws.proofs.text.Keywords.{import_word, from_word, as_word, export_word, default_word, with_word, assert_word}
 use Rattle.again_laws.proofs.text.Marks.{comma_mark, left_brace, times_mark}
-use Rattle.again_laws.proofs.text.Admits.{admits, leaves, is_tight, is_ended, starts_otherwise, passes, worded_admits, expression_opens, admits_word, leaves_open, leaves_wordless, is_free, free_admits, free_open, or_second}
+use Rattle.again_laws.proofs.text.Admits.{admits, leaves, is_tight, is_ended, starts_otherwise, passes, worded_admits, expression_opens, admits_word, leaves_open, leaves_wordless, is_free, free_admits, free_open, free_wordless}
 use Rattle.again_laws.proofs.text.Steps.{Steps, At, Blanked, Apart, ◌▸◌, ends, at, either, apart, mark, nil, text_by, shut, worded, braced, blanks, semicolons, when_goes, if_goes, gaps, gaps_or}
 use Rattle.again_laws.proofs.text.Forms.{Good, AllGood}
-use Rattle.again_laws.proofs.text.Names.{leaving, by_laid}
+use Rattle.again_laws.proofs.text.NamesAndCalls.{leaving, by_laid}
 use Rattle.again_laws.proofs.text.Statements.{AllItems}
-use Rattle.again_laws.proofs.text.Further.{free_wordless, blank_free}
+use Rattle.again_laws.proofs.text.VariablesAndMethods.{blank_free}
 use Rattle.again_laws.proofs.text.Patterns.{inner_admits, blank_open, PlainPart}
 use Rattle.again_laws.proofs.text.Functions.{function_on}
 use Rattle.again_laws.proofs.text.Loops.{AllRows, free_leaves, ended_leaves}
 use Rattle.again_laws.proofs.text.Classes.{class_on}
+use Rattle.again_laws.proofs.Layouts.{laid_import, laid_export}
 
 -- ---- what a declaration of a module starts with, and its parts
 
@@ -101,13 +102,9 @@ module _ (look : Look) where
       mark ▸ at (f Alone s (inner_admits s (import_named_specifier sp l absent) l refl refl refl refl p.no_star a) ▸ λ v q.
       leaving st (import_named_specifier sp l absent) mark (passes Alone st l (import_named_specifier sp l absent) v q p.plain (λ e. refl) (λ e. refl)))
 
-  named_laid : (st : Stand) (sp : Span) (l i : Tree) → is_absent i ≡ false → laid look st (import_named_specifier sp l i) ≡ (start sp · laid look Key i · blank · word (codes "as") · blank · laid look Alone l · end sp)
-  named_laid st sp l absent n = absurd (true≢false n)
-  named_laid st sp l i n = refl
-
   pub named_as : (sp : Span) (l i : Tree) → Good look l → PlainPart l → Good look i → PlainPart i → is_absent i ≡ false → Good look (import_named_specifier sp l i)
   named_as sp l i f p g o n st s a =
-      by_laid look (laid look st (import_named_specifier sp l i)) (start sp · laid look Key i · blank · word (codes "as") · blank · laid look Alone l · end sp) (named_laid st sp l i n)
+      by_laid look (laid look st (import_named_specifier sp l i)) (start sp · laid look Key i · blank · word (codes "as") · blank · laid look Alone l · end sp) (laid_import look st sp l i n)
       (mark ▸ at (g Key s (inner_admits s (import_named_specifier sp l i) i refl refl refl refl o.no_star a) ▸ λ v q. as_on v (leaves_open Key i v q) (f Alone Clear refl ▸ λ x r.
       leaving st (import_named_specifier sp l i) mark (passes Alone st l (import_named_specifier sp l i) x r p.plain (λ e. refl) (λ e. refl)))))
 
@@ -141,13 +138,9 @@ module _ (look : Look) where
       mark ▸ at (f Key s (inner_admits s (export_named_specifier sp o absent) o refl refl refl refl p.no_star a) ▸ λ v q.
       leaving st (export_named_specifier sp o absent) mark (passes Key st o (export_named_specifier sp o absent) v q p.plain (λ e. refl) (λ e. refl)))
 
-  exported_laid : (st : Stand) (sp : Span) (o e : Tree) → is_absent e ≡ false → laid look st (export_named_specifier sp o e) ≡ (start sp · laid look Key o · blank · word (codes "as") · blank · laid look Key e · end sp)
-  exported_laid st sp o absent n = absurd (true≢false n)
-  exported_laid st sp o e n = refl
-
   pub exported_as : (sp : Span) (o e : Tree) → Good look o → PlainPart o → Good look e → PlainPart e → is_absent e ≡ false → Good look (export_named_specifier sp o e)
   exported_as sp o e f p g q n st s a =
-      by_laid look (laid look st (export_named_specifier sp o e)) (start sp · laid look Key o · blank · word (codes "as") · blank · laid look Key e · end sp) (exported_laid st sp o e n)
+      by_laid look (laid look st (export_named_specifier sp o e)) (start sp · laid look Key o · blank · word (codes "as") · blank · laid look Key e · end sp) (laid_export look st sp o e n)
       (mark ▸ at (f Key s (inner_admits s (export_named_specifier sp o e) o refl refl refl refl p.no_star a) ▸ λ v l. as_on v (leaves_open Key o v l) (g Key Clear refl ▸ λ x r.
       leaving st (export_named_specifier sp o e) mark (passes Key st e (export_named_specifier sp o e) x r q.plain (λ z. refl) (λ z. refl)))))
 
@@ -262,7 +255,7 @@ module _ (look : Look) where
           (λ h. o) ▸ λ v p. if_goes (has_other ss)
           (λ h. braces_on (named_items look is_no_namespace false ss) v p (λ z k. first_items is_no_namespace ss a z k))
           (λ h. shut left_brace p ▸ at (gaps look refl ▸ either (braced refl) (braced refl))))
-          (λ e. absurd (false≢true (sym e ∙ or_second (has_other ss) (not (has_namespace ss)) (ap not (no_spaces ss x)))))
+          (λ e. absurd (false≢true (sym e ∙ or_right (has_other ss) (not (has_namespace ss)) (ap not (no_spaces ss x)))))
 
       opened : (u : State) → is_open u ≡ true → Steps (first_namespace look ss · exports look ss (named_items look is_no_namespace false ss)
           · when (is_there src) ((if has_namespace ss && not (has_other ss) then blank else gap look) · from look (laid look Key src) · attributes look w (laid look Alone w)) · semi · end sp) u (λ v. leaves st (named_export sp ss src w) v ≡ true)

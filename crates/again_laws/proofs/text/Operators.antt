@@ -1,13 +1,13 @@
 -- Operators, `new` and statements: each goes well where its parts do.
-use Rattle.std.proofs.Common.{◌≡◌, ℕ, ◌≤◌, ◌⊎◌, inl, inr, ⊎_elim, true, false, ◌&&◌, ◌||◌, not, refl, sym, ap, subst, ◌∙◌, arith}
+use Rattle.std.proofs.Common.{◌≡◌, ℕ, ◌≤◌, ◌⊎◌, inl, inr, ⊎_elim, true, false, ◌||◌, not, refl, sym, ap, subst, ◌∙◌, arith}
 use Rattle.std.specs.Prelude.{◌==◌}
-use Rattle.std.proofs.lemmas.Bool.{false≢true, eqb-true, or_cases}
+use Rattle.std.proofs.lemmas.Bool.{false≢true, eqb-true, or_cases, or_parts}
 use Rattle.base_token.specs.declared.place.Span.{Span}
 use Rattle.base_token.specs.Kinds.{plus_plus_kind, minus_minus_kind}
 use Rattle.tree_spec.specs.Tree.{Tree, update_expr, new_expr, return_stmt, absent}
 use Rattle.grammar_spec.specs.Tokens.Operators.{unary_level, new_level}
 use Rattle.grammar_spec.specs.Tokens.Shape.{level, is_absent}
-use Rattle.print_gaps.specs.Edges.{starts_with_word, ends_with_word, is_there}
+use Rattle.print_gaps.specs.Edges.{starts_with_word, is_there}
 use Rattle.print_layout_spec.specs.declared.look.Look.{Look}
 use Rattle.print_layout_spec.specs.declared.look.Stand.{Stand}
 use Rattle.print_layout_spec.specs.declared.look.Stand.TheVariants.{Alone, Head}
@@ -16,9 +16,9 @@ use Rattle.print_layout_spec.specs.Layout.{laid, is_head, in_parens}
 use Rattle.print_layout_spec.specs.Words.{sign_of}
 use Rattle.again_laws.proofs.text.Keywords.{new_word, return_word}
 use Rattle.again_laws.proofs.text.Marks.{decrement_mark, increment_mark, left_paren, right_paren}
-use Rattle.again_laws.proofs.text.Admits.{admits, admits_word, at_least, expression_opens, expression_plain, head_admits, is_ended, leaves, leaves_open, no_lines, numeric, or_none, passes, starts_otherwise, worded_admits}
+use Rattle.again_laws.proofs.text.Admits.{admits, admits_word, at_least, expression_opens, expression_plain, head_admits, leaves, leaves_open, no_lines, numeric, passes, starts_otherwise, worded_admits, operand_leaves}
 use Rattle.again_laws.proofs.text.Forms.{Good, Sound, by_second, maybe_good, not_absent}
-use Rattle.again_laws.proofs.text.Names.{leaving}
+use Rattle.again_laws.proofs.text.NamesAndCalls.{leaving}
 use Rattle.again_laws.proofs.text.Steps.{Steps, apart, at, committed, gaps_or, mark, nil, semicolons, shut, text_by, when_goes, worded, ◌▸◌, ends}
 use Rattle.again_laws.specs.Tiling.Categories.{Clear, Decr, Fresh, Incr, LessBanged, Minused, Numbered, Plused, Pointed, Quasied, Shut, State, Worded, behind, is_open, takes}
 
@@ -44,10 +44,6 @@ module _ (look : Look) where
   decr_admits : (s : State) (x : Tree) → unary_level ≤ level x → admits (behind Decr s) x ≡ true
   decr_admits Fresh x h = at_least unary_level (level x) h
   decr_admits _ x h = refl
-
-  -- the operand of a prefix leaves what the whole leaves
-  pub operand_leaves : (st : Stand) (x u : Tree) (v : State) → 1 ≤ level x → (ends_with_word u && not (is_ended u)) ≡ true → numeric st u ≡ true → leaves Alone x v ≡ true → leaves st u v ≡ true
-  operand_leaves st x u v h w n l = passes Alone st x u v l (expression_plain x h) (λ e. w) (λ e. n)
 
   increment : (sp : Span) (x : Tree) → unary_level ≤ level x → Good look x → Good look (update_expr sp plus_plus_kind true x)
   unfolding sign_of
@@ -102,7 +98,7 @@ module _ (look : Look) where
       callee : (u : State) → admits u g ≡ true → Steps (Rattle.print_layout_spec.specs.Looks.◌·◌ (laid look Head g) (when (formats look || is_head st) (in_parens Rattle.print_layout_spec.specs.Looks.nothing))) u (λ v. leaves st (new_expr sp g absent) v ≡ true)
       callee u b = f _ _ _ h.3 Head u b ▸ λ v l. when_goes (formats look || is_head st)
           (λ t. shut left_paren (leaves_open Head g v l) ▸ at (nil ▸ at (leaving st (new_expr sp g absent) (shut right_paren refl) refl)))
-          (λ n. passes Head st g (new_expr sp g absent) v l (expression_plain g high) (λ e. refl) (λ e. bare_numeric sp g st (or_none (formats look) (is_head st) n).1))
+          (λ n. passes Head st g (new_expr sp g absent) v l (expression_plain g high) (λ e. refl) (λ e. bare_numeric sp g st (or_parts (formats look) (is_head st) n).1))
 
   -- ---- 14.10 `return`
 

@@ -19,15 +19,15 @@ use Rattle.again_laws.specs.Tiling.Categories.{Fresh, Shut}
 use Rattle.again_laws.specs.Tiling.Tiles.{SaysTiles, IsEmptyPage, IsHashbangText, IsSilent}
 use Rattle.again_laws.proofs.tiling.Items.{Item, Plain, items, spread, listed_items, goes_items, GoesAll}
 use Rattle.again_laws.proofs.tiling.Pen.{pen, after_text, wrote}
-use Rattle.again_laws.proofs.tiling.Settled.{settled, short_settled, goes_settled}
+use Rattle.again_laws.proofs.tiling.DroppedSemicolons.{settled, short_settled, goes_settled}
 use Rattle.again_laws.proofs.tiling.Texts.{lines_of, out_text, short_text, led, behind_hashbang, marked_settled, formatted_tiles, minified_tiles, formatted_behind, minified_behind, formatted_text, minified_text}
 use Rattle.again_laws.proofs.tiling.Tiling.{AllPlaced}
 use Rattle.again_laws.specs.Text.PlacedLaws.{BeginsMarks, HasPair, SaysPlaced, NamesArePlaced, NamesBehindHashbangs}
-use Rattle.again_laws.proofs.text.Closed.{each_keeps}
-use Rattle.again_laws.proofs.text.Kept.{Kept, kept_mark}
-use Rattle.again_laws.proofs.text.Naming.{naming_of}
-use Rattle.again_laws.proofs.text.Notes.{noted_mark, notes, notes_made}
-use Rattle.again_laws.proofs.text.Standing.{IsPair, standing, texts_stand, closed_uncut}
+use Rattle.again_laws.proofs.text.NoCrAtEnd.{each_keeps}
+use Rattle.again_laws.proofs.text.MarksReached.{Kept, kept_mark}
+use Rattle.again_laws.proofs.text.NamesByPlace.{naming_of}
+use Rattle.again_laws.proofs.text.MarksByPen.{noted_mark, notes, notes_made}
+use Rattle.again_laws.proofs.text.NamesAtMarks.{IsPair, standing, texts_stand, closed_uncut}
 
 -- ---- a page
 

@@ -1,7 +1,7 @@
 -- Patterns and parameters.
 use Rattle.std.proofs.Common.{◌≡◌, ◌≤◌, ⊎_elim, Bool, true, false, ◌&&◌, ◌||◌, not, refl, sym, ap, ◌∙◌}
 use Rattle.std.specs.Prelude.{nat_le}
-use Rattle.std.proofs.lemmas.Bool.{false≢true, and_parts, not-true}
+use Rattle.std.proofs.lemmas.Bool.{false≢true, and_parts, not-true, and_right, and_from}
 use Rattle.base_token.specs.declared.place.Span.{Span}
 use Rattle.tree_spec.specs.Tree.{Tree, Trees, none, array_pat, object_pat, rest_pat, assign_pat, key_value_pat_prop, assign_pat_prop, expr_pat, param, binding_ident, member_expr, super_prop_expr, paren_expr}
 use Rattle.grammar_spec.specs.Tokens.Operators.{unary_level}
@@ -13,11 +13,11 @@ use Rattle.print_layout_spec.specs.Looks.{◌·◌, gap, end}
 use Rattle.print_layout_spec.specs.Layout.{laid, separated, comma, ends_with_hole, is_empty}
 use Rattle.again_laws.specs.Tiling.Categories.{State, Fresh, Clear, Shut, Worded, Numbered, Pointed, Plused, Minused, Slashed, Lessed, LessBanged, Dotted, Operated, Decred, Hashed, Quasied, Dots, is_open, takes, blank_behind}
 use Rattle.again_laws.proofs.text.Marks.{left_bracket, right_bracket, left_brace, colon_mark, dots_mark, equals_mark}
-use Rattle.again_laws.proofs.text.Admits.{admits, leaves, is_tight, is_ended, is_nothing, is_starred, starts_otherwise, passes, expression_plain, worded_admits, unstarred, admits_open, leaves_open, leaves_end, is_free, and_false, both_true}
+use Rattle.again_laws.proofs.text.Admits.{admits, leaves, is_tight, is_ended, is_nothing, is_starred, starts_otherwise, passes, expression_plain, worded_admits, unstarred, admits_open, leaves_open, leaves_end, is_free}
 use Rattle.again_laws.proofs.text.Steps.{Steps, ◌▸◌, ends, at, either, mark, nil, text_by, shut, braced, when_goes, gaps}
 use Rattle.again_laws.proofs.text.Forms.{Good, AllGood}
-use Rattle.again_laws.proofs.text.Names.{leaving, commas_go}
-use Rattle.again_laws.proofs.text.Further.{gapped}
+use Rattle.again_laws.proofs.text.NamesAndCalls.{leaving, commas_go}
+use Rattle.again_laws.proofs.text.VariablesAndMethods.{gapped}
 use Rattle.again_laws.proofs.text.Expressions.{last_comma}
 
 -- ---- what stands first in another tree
@@ -89,7 +89,7 @@ place_plain b (binding_ident s i) e = record { plain = refl; opens = refl; no_st
 place_plain b (array_pat s xs) e = record { plain = refl; opens = refl; no_star = refl }
 place_plain b (object_pat s xs) e = record { plain = refl; opens = refl; no_star = refl }
 place_plain b (expr_pat x) e = record { plain = refl; opens = refl; no_star = refl }
-place_plain b _ e = absurd (false≢true (sym (and_false (not b) false refl) ∙ e))
+place_plain b _ e = absurd (false≢true (sym (and_right (not b) false refl) ∙ e))
 
 pub item_plain : (b : Bool) (t : Tree) → is_item_pat b t ≡ true → PlainPart t
 item_plain b (assign_pat s p x) e = record { plain = refl; opens = refl; no_star = refl }
@@ -98,7 +98,7 @@ item_plain b (binding_ident s i) e = record { plain = refl; opens = refl; no_sta
 item_plain b (array_pat s xs) e = record { plain = refl; opens = refl; no_star = refl }
 item_plain b (object_pat s xs) e = record { plain = refl; opens = refl; no_star = refl }
 item_plain b (expr_pat x) e = record { plain = refl; opens = refl; no_star = refl }
-item_plain b _ e = absurd (false≢true (sym (and_false (not b) false refl) ∙ e))
+item_plain b _ e = absurd (false≢true (sym (and_right (not b) false refl) ∙ e))
 
 module _ (look : Look) where
   pub array_pattern : (sp : Span) (xs : Trees) → AllGood look xs → Good look (array_pat sp xs)
@@ -123,7 +123,7 @@ module _ (look : Look) where
 
   pub rest_pattern : (sp d : Span) (p : Tree) → Good look p → (is_ended p || is_nothing p) ≡ false → Good look (rest_pat sp d p)
   rest_pattern sp d p f n st s a =
-      mark ▸ at (text_by Dots dots_mark (dots_stand s sp d p a) ▸ at (mark ▸ at (ends (f Alone Shut refl) (λ v l. passes Alone st p (rest_pat sp d p) v l n (λ e. both_true (ends_with_word p) true e refl) (λ e. refl)))))
+      mark ▸ at (text_by Dots dots_mark (dots_stand s sp d p a) ▸ at (mark ▸ at (ends (f Alone Shut refl) (λ v l. passes Alone st p (rest_pat sp d p) v l n (λ e. and_from (ends_with_word p) true e refl) (λ e. refl)))))
 
   pub initialised_pattern : (sp : Span) (p e : Tree) → Good look p → PlainPart p → Good look e → 1 ≤ level e → Good look (assign_pat sp p e)
   initialised_pattern sp p e f n g h st s a =
@@ -131,7 +131,7 @@ module _ (look : Look) where
       gapped look v (laid look Alone e · end sp) equals_mark (leaves_end Alone p v l) (value Operated (unstarred e h)) (value Clear refl))
     where
       value : (u : State) → admits u e ≡ true → Steps (laid look Alone e · end sp) u (λ v. leaves st (assign_pat sp p e) v ≡ true)
-      value u q = g Alone u q ▸ λ v l. leaving st (assign_pat sp p e) mark (passes Alone st e (assign_pat sp p e) v l (expression_plain e h) (λ t. both_true (ends_with_word e) true t refl) (λ t. refl))
+      value u q = g Alone u q ▸ λ v l. leaving st (assign_pat sp p e) mark (passes Alone st e (assign_pat sp p e) v l (expression_plain e h) (λ t. and_from (ends_with_word e) true t refl) (λ t. refl))
 
   pub keyed_pattern : (sp : Span) (k p : Tree) → Good look k → is_key k ≡ true → Good look p → (is_ended p || is_nothing p) ≡ false → Good look (key_value_pat_prop sp k p)
   keyed_pattern sp k p f i g n st s a =
@@ -164,7 +164,7 @@ module _ (look : Look) where
   pub target_pattern : (x : Tree) → Good look x → (is_target_expr x && is_simple x) ≡ true → Good look (expr_pat x)
   target_pattern x f i st s a =
       let p = target_part x i in
-      ends (f Alone s (first_admits s (expr_pat x) x refl refl refl refl p.opens p.no_star a)) (λ v l. passes Alone st x (expr_pat x) v l p.plain (λ e. both_true (ends_with_word x) true e refl) (λ e. refl))
+      ends (f Alone s (first_admits s (expr_pat x) x refl refl refl refl p.opens p.no_star a)) (λ v l. passes Alone st x (expr_pat x) v l p.plain (λ e. and_from (ends_with_word x) true e refl) (λ e. refl))
 
   pub param_node : (sp : Span) (p : Tree) → Good look p → PlainPart p → Good look (param sp none p)
   param_node sp p f n st s a =

@@ -21,7 +21,7 @@ use Rattle.again_laws.proofs.text.Marks.{dot_mark, hash_mark, question_mark}
 use Rattle.again_laws.proofs.text.Admits.{admits, leaves, admits_open, admits_word}
 use Rattle.again_laws.proofs.text.Steps.{Steps, At, ◌▸◌, at, mark, committed, text_by, worded, when_goes, if_goes, when_true}
 use Rattle.again_laws.proofs.text.Forms.{Good}
-use Rattle.again_laws.proofs.text.Names.{leaving, named, placed, bracketed}
+use Rattle.again_laws.proofs.text.NamesAndCalls.{leaving, named, placed, bracketed}
 
 -- ---- tokens that touch
 

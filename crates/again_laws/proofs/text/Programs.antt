@@ -21,26 +21,23 @@ use Rattle.again_laws.specs.Derived.Read.{Knowledge, Read}
 use Rattle.again_laws.proofs.derived.Found.{found}
 use Rattle.again_laws.proofs.derived.Mapped.{all_mapped}
 use Rattle.again_laws.specs.Tokens.Means.{Known}
-use Rattle.again_laws.proofs.leaf.Filled.{texts_mean}
+use Rattle.again_laws.proofs.leaf.TextsMean.{texts_mean}
 use Rattle.again_laws.specs.Tiling.Categories.{State, Fresh, Word, Number, Big, Member, Str, is_open}
 use Rattle.again_laws.specs.Tiling.Goes.{Fits}
-use Rattle.again_laws.specs.Tiling.Tiles.{IsEmptyPage, IsSilent}
+use Rattle.again_laws.specs.Tiling.Tiles.{IsEmptyPage}
 use Rattle.again_laws.specs.Tiling.Laws.{IsTiled}
 use Rattle.again_laws.proofs.tiling.Texts.{layouts_are_tiled, hashbangs_are_tiled}
 use Rattle.again_laws.specs.Text.Fitting.{class_of_key}
-use Rattle.again_laws.proofs.text.Fitted.{texts_fit}
+use Rattle.again_laws.proofs.text.FittingTexts.{texts_fit}
 use Rattle.again_laws.specs.Text.TiledLaws.{IsLineText, ScriptsAreTiled, ModulesAreTiled}
 use Rattle.again_laws.proofs.text.Admits.{leaves, is_free, free_admits, free_open}
 use Rattle.again_laws.proofs.text.Steps.{Steps, ◌▸◌, ends, at, mark, committed, nil, when_goes}
 use Rattle.again_laws.proofs.text.Forms.{Good, AllSound}
 use Rattle.again_laws.proofs.text.Statements.{closes}
 use Rattle.again_laws.proofs.text.Loops.{line_on, ended_leaves}
-use Rattle.again_laws.proofs.text.Ties.{whole_items}
-use Rattle.again_laws.proofs.text.Whole.{Leaf, goods}
-
-silent : (b : Bool) (sp : Span) → IsSilent (when b (start sp))
-silent true sp = tt
-silent false sp = tt
+use Rattle.again_laws.proofs.text.GrammarToLayout.{whole_items}
+use Rattle.again_laws.proofs.text.EveryTree.{Leaf, goods}
+use Rattle.again_laws.proofs.Shapes.{start_is_silent}
 
 module _ (look : Look) where
   abbrev pub AllClosed : Trees → Type 0
@@ -108,7 +105,7 @@ module _ (look : Look) where
   -- with a hashbang and without
   program_tiled : (begin : ℕ) (modules : Bool) (sp : Span) (ss : Trees) (line : Option (List ℕ)) (p : Page) → AllClosed ss → IsLineText line → IsEmptyPage p → IsTiled begin modules (laid look Alone (script sp ss line)) p
   program_tiled begin modules sp ss None p a i e = layouts_are_tiled begin modules (laid look Alone (script sp ss None)) p e (bare_goes sp ss a).so
-  program_tiled begin modules sp ss (Some own) p a i e = hashbangs_are_tiled begin modules (when (is_empty ss) (start sp)) own (statements look ss · when (not look.omits_last) commit) p e (silent (is_empty ss) sp) i (body_goes ss a).so
+  program_tiled begin modules sp ss (Some own) p a i e = hashbangs_are_tiled begin modules (when (is_empty ss) (start sp)) own (statements look ss · when (not look.omits_last) commit) p e (start_is_silent (is_empty ss) sp) i (body_goes ss a).so
 
 pub scripts_are_tiled : ScriptsAreTiled
 scripts_are_tiled look begin modules sp ss line c ts r p k h i e = program_tiled look begin modules sp ss line p (script_closed look sp ss line c ts r k h) i e

@@ -1,7 +1,7 @@
 -- Statements and arrows.
 use Rattle.std.proofs.Common.{◌≡◌, ◌≤◌, ◌⊎◌, inl, inr, ⊎_elim, Bool, true, false, ◌&&◌, ◌||◌, not, refl, sym, ap, ◌∙◌}
 use Rattle.std.specs.Prelude.{codes, if◌then◌else◌}
-use Rattle.std.proofs.lemmas.Bool.{false≢true, true≢false, and_parts, or_cases}
+use Rattle.std.proofs.lemmas.Bool.{false≢true, true≢false, and_parts, or_cases, and_right, and_from, or_parts}
 use Rattle.base_token.specs.declared.place.Span.{Span}
 use Rattle.tree_spec.specs.Tree.{Tree, Trees, none, more, block_stmt, if_stmt, arrow_expr, fn_decl, function, binding_ident}
 use Rattle.grammar_spec.specs.Tokens.Input.{Input, Code, turned_strict}
@@ -17,11 +17,12 @@ use Rattle.print_layout_spec.specs.Looks.{Laid, ◌·◌, text, when, gap_or, fo
 use Rattle.print_layout_spec.specs.Layout.{laid, rows, closing, indented, is_variables, is_block, marked_as_body, in_parens, separated, comma, is_one_name, word}
 use Rattle.again_laws.proofs.text.Keywords.{async_word, else_word, if_word}
 use Rattle.again_laws.proofs.text.Marks.{arrow_mark, left_brace, left_paren, right_paren}
-use Rattle.again_laws.proofs.text.Admits.{admits, admits_open, admits_word, and_false, both_true, expression_plain, free_admits, free_open, is_ended, is_free, leaves, leaves_end, leaves_open, leaves_wordless, or_none, passes, starts_otherwise, worded_admits}
+use Rattle.again_laws.proofs.text.Admits.{admits, admits_open, admits_word, expression_plain, free_admits, free_open, is_ended, is_free, leaves, leaves_end, leaves_open, leaves_wordless, passes, starts_otherwise, worded_admits, free_wordless}
 use Rattle.again_laws.proofs.text.Forms.{AllGood, AllSound, Good, Sound, by_second, not_absent}
-use Rattle.again_laws.proofs.text.Names.{commas_go, leaving}
+use Rattle.again_laws.proofs.text.NamesAndCalls.{commas_go, leaving}
 use Rattle.again_laws.proofs.text.Steps.{Steps, apart, at, blanks, braced, comes_back, committed, deepens, either, gaps, gaps_or, if_goes, lines, mark, nil, semicolons, shut, text_by, when_goes, worded, ◌▸◌, ends}
-use Rattle.again_laws.specs.Tiling.Categories.{Arrow, Clear, Fresh, Operated, Shut, State, Worded, blank_behind, is_end, is_open, is_wordless}
+use Rattle.again_laws.specs.Tiling.Categories.{Arrow, Clear, Fresh, Operated, Shut, State, Worded, blank_behind, is_end, is_open}
+use Rattle.again_laws.proofs.Layouts.{block_no_variables}
 
 module _ (look : Look) where
   -- a statement or a declaration that goes well
@@ -38,14 +39,10 @@ module _ (look : Look) where
 
   -- what an item leaves, other than variables
   pub ended_free : (t : Tree) (v : State) → is_item t ≡ true → is_variables t ≡ false → leaves Alone t v ≡ true → is_free v ≡ true
-  ended_free t v i n l = leaves_wordless Alone t v (ap (λ b. ends_with_word t && not b) ended ∙ and_false (ends_with_word t) false refl) l
+  ended_free t v i n l = leaves_wordless Alone t v (ap (λ b. ends_with_word t && not b) ended ∙ and_right (ends_with_word t) false refl) l
     where
       ended : is_ended t ≡ true
-      ended = both_true _ (not (is_variables t)) (ap (λ b. b || (Rattle.grammar_spec.specs.Tokens.Shape.is_module_decl t || (Rattle.grammar_spec.specs.Tokens.Shape.is_case t || Rattle.grammar_spec.specs.Tokens.Shape.is_member t))) i) (ap not n)
-
-  block_no_variables : (t : Tree) → is_block t ≡ true → is_variables t ≡ false
-  block_no_variables (block_stmt s ss) e = refl
-  block_no_variables _ e = absurd (false≢true e)
+      ended = and_from _ (not (is_variables t)) (ap (λ b. b || (Rattle.grammar_spec.specs.Tokens.Shape.is_module_decl t || (Rattle.grammar_spec.specs.Tokens.Shape.is_case t || Rattle.grammar_spec.specs.Tokens.Shape.is_member t))) i) (ap not n)
 
   pub closes : (t : Tree) (v : State) → is_item t ≡ true → leaves Alone t v ≡ true → Steps (closing look t) v (λ u. is_free u ≡ true)
   unfolding closing
@@ -106,7 +103,7 @@ module _ (look : Look) where
       by false b e f = absurd (false≢true e)
 
       apart_items : (t : Tree) → (is_item t && starts_otherwise t) ≡ false
-      apart_items (Rattle.tree_spec.specs.Tree.var_decl s k ds) = and_false _ false refl
+      apart_items (Rattle.tree_spec.specs.Tree.var_decl s k ds) = and_right _ false refl
       apart_items _ = refl
 
   pub if_good : (sp : Span) (t a b : Tree) → Good look t → Item a → (is_there b ≡ true → Item b) → Good look (if_stmt sp t a b)
@@ -127,12 +124,6 @@ module _ (look : Look) where
           if_leaves Clear k = refl
           if_leaves Shut k = refl
           if_leaves _ k = absurd (false≢true k)
-
-          free_wordless : (u : State) → is_free u ≡ true → is_wordless u ≡ true
-          free_wordless Fresh k = refl
-          free_wordless Clear k = refl
-          free_wordless Shut k = refl
-          free_wordless _ k = absurd (false≢true k)
 
           last_part : is_there b ≡ true → (u : State) → admits u b ≡ true → Steps (laid look Alone b · closing look b) u (λ v. leaves st (if_stmt sp t a b) v ≡ true)
           last_part e u q = (h e).0 Alone u q ▸ λ v l. ends (closes b v (h e).1 l) (λ w k. if_leaves w k)
@@ -191,7 +182,7 @@ module _ (look : Look) where
 
   pub arrow_good : (sp : Span) (ps : Trees) (b : Tree) (w : Bool) → AllGood look ps → Good look b → (is_block b ≡ false → 1 ≤ level b) → Good look (arrow_expr sp ps b w)
   arrow_good sp ps b true a f h st s d =
-      mark ▸ at ((worded async_word (admits_word s (arrow_expr sp ps b true) d refl) ▸ at (when_goes {P = λ v. ((is_one_name ps ≡ false) × (v ≡ Worded)) ⊎ (v ≡ Clear)} (formats look || is_one_name ps) (λ e. ends (blanks refl) (λ v q. inr q)) (λ e. inl ((or_none (formats look) (is_one_name ps) e).1, refl)))) ▸ apart
+      mark ▸ at ((worded async_word (admits_word s (arrow_expr sp ps b true) d refl) ▸ at (when_goes {P = λ v. ((is_one_name ps ≡ false) × (v ≡ Worded)) ⊎ (v ≡ Clear)} (formats look || is_one_name ps) (λ e. ends (blanks refl) (λ v q. inr q)) (λ e. inl ((or_parts (formats look) (is_one_name ps) e).1, refl)))) ▸ apart
       (λ n. parameters ps a Worded refl (λ o. absurd (true≢false (sym o ∙ n))) ▸ λ v l. arrow_tail b f h sp ps true st v l)
       (parameters ps a Clear refl (λ o at' i. refl) ▸ λ v l. arrow_tail b f h sp ps true st v l))
   arrow_good sp ps b false a f h st s d =

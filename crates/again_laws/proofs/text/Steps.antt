@@ -1,15 +1,14 @@
 -- Steps over a layout: from what stands last on, part by part.
 use Rattle.std.proofs.Common.{◌≡◌, ℕ, ◌⊎◌, inl, inr, Bool, true, false, ◌||◌, List, Option, refl, sym, subst}
 use Rattle.std.specs.Prelude.{if◌then◌else◌}
-use Rattle.std.proofs.lemmas.Bool.{false≢true}
+use Rattle.std.proofs.lemmas.Bool.{false≢true, or_parts}
 use Rattle.lex_token.specs.declared.goal.LexicalGoal.TheVariants.{Div}
 use Rattle.base_token.specs.declared.place.BytePos.{BytePos}
 use Rattle.base_token.specs.declared.place.Span.{Span}
 use Rattle.print_pages_spec.specs.Pieces.{Text, Brace, Semicolon, Commit, Mark}
 use Rattle.print_layout_spec.specs.declared.look.Look.{Look}
 use Rattle.print_layout_spec.specs.Looks.{Laid, nothing, one, both, blank, when, gap, gap_or, line, deeper, back, formats}
-use Rattle.again_laws.proofs.text.Admits.{or_none}
-use Rattle.again_laws.proofs.tiling.Walks.{mono}
+use Rattle.again_laws.proofs.tiling.GoingLayouts.{mono}
 use Rattle.again_laws.specs.Tiling.Categories.{Category, Clear, Closed, Fresh, Shut, State, Word, Worded, behind, blank_behind, is_open, is_wordless, takes}
 use Rattle.again_laws.specs.Tiling.Goes.{Fits, Goes, When}
 
@@ -99,7 +98,7 @@ module _ (look : Look) where
   gaps {s = s} o = when_goes (formats look) (λ e. ends (blanks o) (λ t q. inr q)) (λ e. inl refl)
 
   pub gaps_or : {s : State} (w : Bool) → is_open s ≡ true → Steps (gap_or look w) s (Apart w s)
-  gaps_or {s = s} w o = when_goes (w || formats look) (λ e. ends (blanks o) (λ t q. inr q)) (λ e. inl ((or_none w (formats look) e).0, refl))
+  gaps_or {s = s} w o = when_goes (w || formats look) (λ e. ends (blanks o) (λ t q. inr q)) (λ e. inl ((or_parts w (formats look) e).0, refl))
 
   pub lines : {s : State} → is_open s ≡ true → Steps (line look) s (Lined s)
   lines {s = s} o = when_goes (formats look) (λ e. record { so = when_true (is_open s) ((Fresh ≡ s) ⊎ (Fresh ≡ Fresh)) o (inr refl) }) (λ e. inl refl)

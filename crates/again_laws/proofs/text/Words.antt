@@ -1,9 +1,9 @@
 -- Words are tokens of their category (ECMA-262, 12.7).
-use Rattle.std.proofs.Common.{◌≡◌, ℕ, inl, ⊎_elim, Bool, true, false, ◌||◌, not, List, [], ◌∷◌, ◌++◌, refl, sym, ap, subst, ◌∙◌}
+use Rattle.std.proofs.Common.{◌≡◌, ℕ, Bool, inl, ⊎_elim, true, false, ◌||◌, not, List, [], ◌∷◌, ◌++◌, refl, sym, ap, subst, ◌∙◌, ◌&&◌}
 use Rattle.std.specs.Prelude.{◌==◌}
 use Rattle.std.specs.List.{list_all}
 use Rattle.std.specs.Str.{chars, IsUtf8}
-use Rattle.std.proofs.lemmas.Bool.{cases_Bool, false≢true, and_parts, not-true}
+use Rattle.std.proofs.lemmas.Bool.{cases_Bool, false≢true, and_parts, not-true, or_parts, or_from}
 use Rattle.std.proofs.lemmas.List.{append-nil}
 use Rattle.unicode_ident.proofs.Computing.{unicode_ident}
 use Rattle.lex_pieces.specs.Characters.{is_among, is_white_space, is_line_terminator, white_space, line_terminators, is_name_start}
@@ -22,14 +22,6 @@ use Rattle.again_laws.specs.Tiling.Categories.{Word}
 use Rattle.again_laws.specs.Tiling.Following.{Starts, is_wordy, is_dotty, is_safe, never, QuietUnder}
 use Rattle.again_laws.specs.Tiling.Goes.{Fits}
 use Rattle.again_laws.proofs.tiling.Marks.{quiet_plain, is_lead}
-
-pub both_false : (a b : Bool) → a ≡ false → b ≡ false → (a || b) ≡ false
-both_false true b e f = e
-both_false false b e f = f
-
-pub or_none : (a b : Bool) → (a || b) ≡ false → (a ≡ false) × (b ≡ false)
-or_none true b e = absurd (false≢true (sym e))
-or_none false b e = (refl, e)
 
 -- ---- what a word begins with
 
@@ -51,13 +43,9 @@ marks_no : list_all no_opening (47 ∷ 60 ∷ 45 ∷ []) ≡ true
 unfolding unicode_ident no_opening
 marks_no = refl
 
-white_no : list_all no_opening white_space ≡ true
+blanks_no : (list_all no_opening white_space && list_all no_opening line_terminators) ≡ true
 unfolding unicode_ident no_opening
-white_no = refl
-
-terminators_no : list_all no_opening line_terminators ≡ true
-unfolding unicode_ident no_opening
-terminators_no = refl
+blanks_no = refl
 
 not_among : (ns : List ℕ) (c : ℕ) → list_all no_opening ns ≡ true → is_opening c ≡ true → is_among ns c ≡ false
 unfolding no_opening
@@ -70,22 +58,23 @@ pub opening_safe : (c : ℕ) → is_opening c ≡ true → is_safe c ≡ true
 opening_safe c h = ap not (not_among others c others_no h)
 
 pub opening_dotless : (c : ℕ) → is_opening c ≡ true → is_dotty c ≡ false
-opening_dotless c h = both_false (is_point c) (is_decimal c) (or_none (c == 46) false (not_among (46 ∷ []) c points_no h)).0 (no_decimal c h)
+opening_dotless c h = or_from (is_point c) (is_decimal c) (or_parts (c == 46) false (not_among (46 ∷ []) c points_no h)).0 (no_decimal c h)
   where
     no_decimal : (c : ℕ) → is_opening c ≡ true → is_decimal c ≡ false
     no_decimal c h = ⊎_elim (λ (t : is_decimal c ≡ true). absurd (false≢true (sym (digit_no_opening c t) ∙ h))) (λ (f : is_decimal c ≡ false). f) (cases_Bool (is_decimal c))
 
 pub opening_no_lead : (c : ℕ) → is_opening c ≡ true → is_lead c ≡ false
 opening_no_lead c h =
+    let blanks = and_parts (list_all no_opening white_space) (list_all no_opening line_terminators) blanks_no in
     let m = not_among (47 ∷ 60 ∷ 45 ∷ []) c marks_no h in
-    let a = or_none (c == 47) _ m in
-    let b = or_none (c == 60) _ a.1 in
-    let d = or_none (c == 45) false b.1 in
-    both_false (is_white_space c) _ (not_among white_space c white_no h) (both_false (is_line_terminator c) _ (not_among line_terminators c terminators_no h) (both_false (c == 47) _ a.0 (both_false (c == 60) _ b.0 d.0)))
+    let a = or_parts (c == 47) _ m in
+    let b = or_parts (c == 60) _ a.1 in
+    let d = or_parts (c == 45) false b.1 in
+    or_from (is_white_space c) _ (not_among white_space c blanks.0 h) (or_from (is_line_terminator c) _ (not_among line_terminators c blanks.1 h) (or_from (c == 47) _ a.0 (or_from (c == 60) _ b.0 d.0)))
 
 wordy_continuing : (cs : List ℕ) → Ends is_wordy cs → Ends is_continuing cs
 wordy_continuing [] h = tt
-wordy_continuing (c ∷ cs) h = (or_none (is_continuing c) (is_barred c) h).0
+wordy_continuing (c ∷ cs) h = (or_parts (is_continuing c) (is_barred c) h).0
 
 -- A text that is read as a word.
 pub word_fits : (bytes cs : List ℕ) (c : ℕ) (ds : List ℕ) (x : SpecLexeme) → IsUtf8 bytes → chars bytes ≡ cs → cs ≡ c ∷ ds → is_opening c ≡ true

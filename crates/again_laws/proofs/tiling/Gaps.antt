@@ -1,6 +1,7 @@
 -- Blanks and ends of lines are trivia (ECMA-262, 12.2 and 12.3).
 use Rattle.std.proofs.Common.{◌≡◌, ℕ, ◌⊎◌, inl, inr, Bool, true, false, ◌||◌, List, [], ◌∷◌, refl, sym, ap, subst, ◌∙◌}
 use Rattle.std.specs.List.{list_any}
+use Rattle.base_proofs.proofs.Bools.{or_false}
 use Rattle.lex_pieces.specs.Characters.{is_white_space}
 use Rattle.lex_pieces.specs.Runs.{Ends}
 use Rattle.lex_pieces.specs.Trivia.{Piece, WhiteSpace, LineTerminator, Follow, IsSkipped, NoTrivia, breaks}
@@ -36,10 +37,6 @@ AreBlank [] = Unit {0}
 AreBlank (White c ∷ us) = (is_white_space c ≡ true) × AreBlank us
 AreBlank (Feed ∷ us) = AreBlank us
 AreBlank (Return ∷ us) = AreBlank us
-
-or_false : (b : Bool) → (b || false) ≡ b
-or_false true = refl
-or_false false = refl
 
 or_true : (a b : Bool) → ((a || true) || b) ≡ (a || true)
 or_true true b = refl

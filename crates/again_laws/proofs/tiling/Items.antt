@@ -1,5 +1,6 @@
 -- Layouts as lists of items: pieces, texts that are meant together, and names.
-use Rattle.std.proofs.Common.{◌≡◌, ℕ, true, List, [], ◌∷◌, None, refl, ap, ◌∙◌}
+use Rattle.std.proofs.Common.{◌≡◌, ℕ, true, List, [], ◌∷◌, None, refl, ap, ◌∙◌, subst, ⊎_elim, false}
+use Rattle.std.proofs.lemmas.Bool.{cases_Bool, false≢true}
 use Rattle.base_token.specs.declared.place.BytePos.{BytePos}
 use Rattle.lex_literal.specs.declared.template.Ending.{Ending}
 use Rattle.lex_literal.specs.declared.template.Ending.TheVariants.{BackQuote, Substitution}
@@ -11,10 +12,11 @@ use Rattle.print_pages_spec.specs.Pieces.{Piece, Text, Brace, Blank, Line, Deepe
 use Rattle.print_layout_spec.specs.Looks.{Meaning, regular_expression, template_characters, template_end, hashbang_comment, touching, Laid, nothing, one, meant, named, both, refused, listed, joined, texts_of, texts_before}
 use Rattle.again_laws.specs.Tokens.Spacings.{Spacing}
 use Rattle.again_laws.specs.Tokens.Says.{IsNameSaid, SaysPiece, SaysTexts, SaysMeaning, Says}
-use Rattle.again_laws.specs.Tiling.Categories.{State, Clear, Shut, Category, Word, Number, Big, Member, Str, Regex, Operator, Arrow, Closed, Quasi, End, is_open, takes, behind}
+use Rattle.again_laws.specs.Tiling.Categories.{State, Clear, Shut, Category, Word, Number, Big, Member, Str, Regex, Operator, Arrow, Closed, Quasi, End, is_open, takes, behind, Fresh}
 use Rattle.again_laws.specs.Tiling.Following.{Front}
 use Rattle.again_laws.specs.Tiling.Goes.{When, GoesText, GoesPiece, GoesTexts, GoesMeaning, Goes}
-use Rattle.again_laws.proofs.tiling.Walks.{mono, reach, When_mono}
+use Rattle.again_laws.proofs.tiling.GoingLayouts.{mono, reach, When_mono}
+use Rattle.again_laws.proofs.tiling.Pen.{Pen}
 
 pub data Item : Type 0 where
   Plain : Piece → Item
@@ -158,3 +160,11 @@ front_nil Arrow f = absurd (let e = f.whole in cc)
 front_nil Closed f = absurd (let e = f.whole in cc)
 front_nil Regex f = absurd (let e = f.1 in cc)
 front_nil _ f = absurd cc
+
+-- an empty text stands behind another in its line
+pub empty_runs : (k : Category) (s : State) (q : Pen) → Front k [] → takes k s ≡ true → (q.at_start ≡ true → s ≡ Fresh) → q.at_start ≡ false
+empty_runs k s q f t st = by s (subst (λ (x : Category). takes x s ≡ true) (front_nil k f) t) st
+  where
+    by : (s : State) → takes Quasi s ≡ true → (q.at_start ≡ true → s ≡ Fresh) → q.at_start ≡ false
+    by Shut t st = ⊎_elim (λ (e : q.at_start ≡ true). absurd (let c : Shut ≡ Fresh = st e in cc)) (λ (e : q.at_start ≡ false). e) (cases_Bool q.at_start)
+    by _ t st = absurd (false≢true t)

@@ -1,9 +1,8 @@
 -- Punctuators are tokens of their categories.
 use Rattle.std.proofs.Common.{◌≡◌, ◌≢◌, ℕ, inr, Bool, true, false, ◌||◌, List, [], ◌∷◌, ◌++◌, Some, refl, sym, subst, ◌∙◌}
 use Rattle.std.specs.Prelude.{◌==◌, codes}
-use Rattle.std.proofs.lemmas.Bool.{false≢true, eq-eqb}
+use Rattle.std.proofs.lemmas.Bool.{false≢true, eq-eqb, or_parts}
 use Rattle.std.proofs.lemmas.List.{append-nil}
-use Rattle.unicode_ident.proofs.Computing.{unicode_ident}
 use Rattle.base_token.specs.Kinds.{right_brace_kind, back_quote_kind}
 use Rattle.base_token.specs.Tokens.{bare}
 use Rattle.base_token.specs.TokenViews.{token_kind_number}
@@ -19,6 +18,7 @@ use Rattle.again_laws.proofs.tokens.Punctuators.{look, stays, all_stay, punctuat
 use Rattle.again_laws.specs.Tiling.Categories.{Category, Decr, Closed}
 use Rattle.again_laws.specs.Tiling.Following.{Needs, Front, Quiet, Arrowless, is_wordy, is_dotty, is_safe, never}
 use Rattle.again_laws.specs.Tiling.Goes.{Fits}
+use Rattle.again_laws.proofs.tiling.Wordless.{wordless}
 
 -- ---- no trivia
 
@@ -26,25 +26,18 @@ use Rattle.again_laws.specs.Tiling.Goes.{Fits}
 abbrev pub is_lead : ℕ → Bool
 is_lead c = is_white_space c || (is_line_terminator c || (c == 47 || (c == 60 || c == 45)))
 
-pub or_none : (a b : Bool) → (a || b) ≡ false → (a ≡ false) × (b ≡ false)
-or_none true b e = absurd (false≢true (sym e))
-or_none false b e = (refl, e)
-
 pub not_first : (c n : ℕ) (cs ds : List ℕ) → (c == n) ≡ false → c ∷ cs ≢ n ∷ ds
 not_first c n cs ds f e = let k : c ≡ n = cc in false≢true (sym f ∙ eq-eqb c n k)
 
 pub quiet_plain : (c : ℕ) (cs : List ℕ) → is_lead c ≡ false → Quiet (c ∷ cs) × ((inner : List ℕ) → c ∷ cs ≢ 45 ∷ 45 ∷ 62 ∷ inner)
 quiet_plain c cs e =
-    let x = or_none (is_white_space c) _ e in
-    let y = or_none (is_line_terminator c) _ x.1 in
-    let z = or_none (c == 47) _ y.1 in
-    let w = or_none (c == 60) _ z.1 in (
+    let x = or_parts (is_white_space c) _ e in
+    let y = or_parts (is_line_terminator c) _ x.1 in
+    let z = or_parts (c == 47) _ y.1 in
+    let w = or_parts (c == 60) _ z.1 in (
       record { white = x.0; line = y.0; slashes = λ inner. not_first c 47 cs (47 ∷ inner) z.0; block = λ inner. not_first c 47 cs (42 ∷ inner) z.0; html = λ inner. not_first c 60 cs (33 ∷ 45 ∷ 45 ∷ inner) w.0 },
       λ inner. not_first c 45 cs (45 ∷ 62 ∷ inner) w.1,
     )
-
-pub tail_is : (c : ℕ) (cs ds : List ℕ) → c ∷ cs ≡ c ∷ ds → cs ≡ ds
-tail_is c cs ds e = cc
 
 pub arrowless : (k : Category) (text : List ℕ) → ((inner : List ℕ) → text ≢ 45 ∷ 45 ∷ 62 ∷ inner) → Arrowless k text
 arrowless Decr text h = tt
@@ -90,21 +83,13 @@ closed_mark c kind asc e a l p s d w = plain_mark never c [] kind Closed asc e a
 
 -- ---- the marks that pieces write
 
-wordy_125 : is_wordy 125 ≡ false
-unfolding unicode_ident
-wordy_125 = refl
-
-wordy_59 : is_wordy 59 ≡ false
-unfolding unicode_ident
-wordy_59 = refl
-
 pub right_brace : Fits Div (codes "}") Closed
 unfolding look stays all_stay
-right_brace = closed_mark 125 t.RBrace refl refl refl refl refl refl refl wordy_125
+right_brace = closed_mark 125 t.RBrace refl refl refl refl refl refl refl (wordless 125 refl)
 
 pub semicolon_mark : Fits Div (codes ";") Closed
 unfolding look stays all_stay
-semicolon_mark = closed_mark 59 t.Semi refl refl refl refl refl refl refl wordy_59
+semicolon_mark = closed_mark 59 t.Semi refl refl refl refl refl refl refl (wordless 59 refl)
 
 -- the token `}`
 pub right_brace_is : right_brace.lexeme.token.kind ≡ right_brace_kind
@@ -112,13 +97,9 @@ unfolding right_brace closed_mark plain_mark mark_fits
 right_brace_is = refl
 
 -- the back quote that begins a template
-wordy_96 : is_wordy 96 ≡ false
-unfolding unicode_ident
-wordy_96 = refl
-
 pub back_quote : Fits Div (codes "`") Closed
 unfolding look stays all_stay
-back_quote = closed_mark 96 t.BackQuote refl refl refl refl refl refl refl wordy_96
+back_quote = closed_mark 96 t.BackQuote refl refl refl refl refl refl refl (wordless 96 refl)
 
 pub back_quote_is : back_quote.lexeme ≡ plain (bare back_quote_kind)
 unfolding back_quote closed_mark plain_mark mark_fits

@@ -16,10 +16,10 @@ use Rattle.again_laws.specs.Tiling.Following.{Front, Follows, is_safe}
 use Rattle.again_laws.specs.Tiling.Goes.{GoesText}
 use Rattle.again_laws.proofs.tiling.Gaps.{Blankness, White, Feed, Return, gap_before, AreBlank}
 use Rattle.again_laws.proofs.tiling.Items.{Item, Plain, Meant, Named, spread, GoesAll, apart, spread_apart, goes_apart, front_nil}
-use Rattle.again_laws.proofs.tiling.Leads.{Lines, lead_of, gap_append, wrote_texts, next_lines, text_lines, follows}
+use Rattle.again_laws.proofs.tiling.BetweenTexts.{Lines, lead_of, gap_append, wrote_texts, next_lines, text_lines, follows}
 use Rattle.again_laws.proofs.tiling.Pen.{Pen, lead, own_text, after_text, own, next, wrote}
-use Rattle.again_laws.proofs.tiling.Touch.{safe_not}
-use Rattle.again_laws.proofs.tiling.Walks.{when_so}
+use Rattle.again_laws.proofs.tiling.TakenFollows.{safe_not}
+use Rattle.again_laws.proofs.tiling.GoingLayouts.{when_so}
 
 other_first : (c : ℕ) (cs : List ℕ) → (c == 35) ≡ false → NoHashbang (c ∷ cs)
 other_first c cs f inner e = let k : c ≡ 35 = cc in false≢true (sym f ∙ eq-eqb c 35 k)

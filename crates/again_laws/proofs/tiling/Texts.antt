@@ -1,16 +1,17 @@
 -- The text of a layout is tiled by tokens that it says: formatted and minified, alone and behind a hashbang.
 use Rattle.std.proofs.Common.{◌≡◌, ℕ, ◌+◌, ◌⊎◌, inl, inr, Bool, true, false, List, [], ◌∷◌, ◌++◌, length, refl, sym, ap, subst, ◌∙◌, arith}
-use Rattle.std.specs.Prelude.{codes, if◌then◌else◌, encode_utf8_all}
+use Rattle.std.specs.Prelude.{codes, if◌then◌else◌}
 use Rattle.std.specs.Str.{chars, IsUtf8}
 use Rattle.std.proofs.lemmas.Bool.{false≢true}
 use Rattle.std.proofs.lemmas.List.{append-nil}
-use Rattle.std.proofs.lemmas.Str.{chars-append, encodes-append, encodes-chars}
+use Rattle.std.proofs.lemmas.Str.{chars-append, encodes-chars}
 use Rattle.lex_pieces.specs.Characters.{is_white_space}
 use Rattle.lex_pieces.specs.Classes.{is_line_char}
 use Rattle.lex_pieces.specs.Places.{bytes}
 use Rattle.lex_pieces.specs.Runs.{Each, Ends}
 use Rattle.lex_pieces.specs.Trivia.{NoHashbang}
 use Rattle.lex_step_laws.specs.States.{shebang, place, spot_at}
+use Rattle.lex_run_laws.proofs.Owns.{bytes_append}
 use Rattle.grammar_spec.specs.Tokens.Input.{PlacedToken, Input, div_goal, no_context}
 use Rattle.grammar_text_spec.specs.Tiled.{Tile, whole}
 use Rattle.print_writers.specs.Pages.{Page, times}
@@ -26,9 +27,9 @@ use Rattle.again_laws.specs.Tiling.Laws.{LayoutsAreTiled, HashbangsAreTiled}
 use Rattle.again_laws.proofs.tiling.Pen.{Pen, pen, lead, after_text, next, wrote, out_wrote}
 use Rattle.again_laws.proofs.tiling.Gaps.{Blankness, White, Feed, Return, chars_of, gap_before, is_end_of_line, breaks_line, AreBlank}
 use Rattle.again_laws.proofs.tiling.Items.{Item, Plain, Meant, Named, items, spread, listed_items, goes_items, GoesAll, SaysAll, says_of}
-use Rattle.again_laws.proofs.tiling.Leads.{Lines, wrote_texts, after_texts, after_joined, next_lines, gap_append}
+use Rattle.again_laws.proofs.tiling.BetweenTexts.{Lines, wrote_texts, after_texts, after_joined, next_lines, gap_append}
 use Rattle.again_laws.proofs.tiling.Tiling.{AllPlaced, Tiled, tiled, line_more, text_more}
-use Rattle.again_laws.proofs.tiling.Settled.{settled, short_settled, goes_settled, says_settled}
+use Rattle.again_laws.proofs.tiling.DroppedSemicolons.{settled, short_settled, goes_settled, says_settled}
 use Rattle.again_laws.proofs.tiling.NoHashbang.{no_hashbang}
 
 -- ---- an empty page
@@ -173,9 +174,6 @@ line_left q w l = by l.line l.line_ends
 
 line_chars : (q : Pen) (w : List ℕ) (l : Lines q) → chars (q.line_end ++ w) ≡ gap_before (l.line ∷ []) (chars w)
 line_chars q w l = chars-append q.line_end w l.line_utf8 ∙ (ap (λ (o : List ℕ). o ++ chars w) l.line_chars ∙ gap_append (l.line ∷ []) [] (chars w))
-
-bytes_append : (xs ys : List ℕ) → bytes (xs ++ ys) ≡ bytes xs + bytes ys
-bytes_append xs ys = ap length (encodes-append xs ys) ∙ Rattle.std.proofs.Common.length-append (encode_utf8_all xs) (encode_utf8_all ys)
 
 hashed : (N : ℕ → ℕ → Type 0) (start : ℕ) (modules : Bool) (own : List ℕ) (xs : List Item) (p : Page) → IsEmptyPage p → IsHashbangText own
     → AllPlaced N (start + bytes (chars (wrote (spread (led own xs)) (pen p)))) (led own xs) (pen p) → GoesAll xs Fresh → Hashed N start modules own xs (chars (wrote (spread (led own xs)) (pen p)))

@@ -1,8 +1,8 @@
 -- The bytes of items are tiled by the tokens that they say.
-use Rattle.std.proofs.Common.{◌≡◌, ◌≢◌, ℕ, ◌+◌, ◌-◌, ◌⊎◌, inl, inr, ⊎_elim, Bool, true, false, ◌||◌, List, [], ◌∷◌, ◌++◌, None, length, length-append, refl, sym, ap, subst, ◌∙◌, append_assoc, arith}
-use Rattle.std.specs.Prelude.{codes, encode_utf8_all}
+use Rattle.std.proofs.Common.{◌≡◌, ◌≢◌, ℕ, ◌+◌, ◌-◌, ◌⊎◌, inl, inr, ⊎_elim, Bool, true, false, ◌||◌, List, [], ◌∷◌, ◌++◌, None, length, refl, sym, ap, subst, ◌∙◌, append_assoc, arith}
+use Rattle.std.specs.Prelude.{codes}
 use Rattle.std.specs.Str.{chars, IsUtf8}
-use Rattle.std.proofs.lemmas.Str.{chars-append, chars-nil, encodes-append, encodes-chars}
+use Rattle.std.proofs.lemmas.Str.{chars-append, chars-nil, encodes-chars}
 use Rattle.std.proofs.lemmas.Bool.{cases_Bool, false≢true, true≢false}
 use Rattle.std.proofs.lemmas.List.{append-nil}
 use Rattle.lex_pieces.specs.Places.{bytes}
@@ -16,6 +16,7 @@ use Rattle.lex_token.specs.declared.goal.LexicalGoal.{LexicalGoal}
 use Rattle.lex_token.specs.declared.goal.LexicalGoal.TheVariants.{Div, RegExp, TemplateTail, TemplateEnd}
 use Rattle.lex_token.specs.Lexemes.{IsLexeme}
 use Rattle.lex_step_laws.specs.States.{place, spot_at}
+use Rattle.lex_run_laws.proofs.Owns.{bytes_append}
 use Rattle.grammar_spec.specs.Tokens.Input.{PlacedToken, Input, no_context, lo}
 use Rattle.grammar_text_spec.specs.Tiled.{goal_at, IsBefore, IsTile, AreTiles}
 use Rattle.print_pages_spec.specs.Pieces.{Piece, Text, Brace, Blank, Line, Deeper, Back, Semicolon, Commit, Mark}
@@ -27,12 +28,12 @@ use Rattle.again_laws.specs.Tiling.Following.{Quiet, QuietUnder, Arrowless, Foll
 use Rattle.again_laws.specs.Tiling.Tiles.{AllHaveGoals}
 use Rattle.again_laws.specs.Tiling.Goes.{Fits, When, GoesText}
 use Rattle.again_laws.proofs.tiling.Gaps.{Blankness, White, Feed, Return, gap_before, is_end_of_line, breaks_line, AreBlank, are_skipped}
-use Rattle.again_laws.proofs.tiling.Items.{Item, Plain, Meant, Named, spread, GoesAll, SaysItem, SaysAll, apart, spread_apart, goes_apart, says_apart, shut_for_clear, front_nil}
-use Rattle.again_laws.proofs.tiling.Leads.{Lines, Lead, lead_of, gap_append, gap_join, blank_join, breaks_join, breaks_flat, wrote_texts, after_texts, after_joined, next_lines, text_lines, follows, lone_32}
+use Rattle.again_laws.proofs.tiling.Items.{Item, Plain, Meant, Named, spread, GoesAll, SaysItem, SaysAll, apart, spread_apart, goes_apart, says_apart, shut_for_clear, empty_runs}
+use Rattle.again_laws.proofs.tiling.BetweenTexts.{Lines, Lead, lead_of, gap_append, gap_join, blank_join, breaks_join, breaks_flat, wrote_texts, after_texts, after_joined, next_lines, text_lines, follows, lone_32}
 use Rattle.again_laws.proofs.tiling.Marks.{right_brace, semicolon_mark}
 use Rattle.again_laws.proofs.tiling.Pen.{Pen, lead, own_text, after_text, own, next, wrote}
-use Rattle.again_laws.proofs.tiling.Touch.{needs}
-use Rattle.again_laws.proofs.tiling.Walks.{when_so}
+use Rattle.again_laws.proofs.tiling.TakenFollows.{needs}
+use Rattle.again_laws.proofs.tiling.GoingLayouts.{when_so}
 
 -- ---- no trivia begins a token
 
@@ -73,9 +74,6 @@ module _ (goal : Goal) (first : Bool) (text : List ℕ) (q : Quiet text) (a : fi
   no_trivia = (no_piece, (λ h. q.block h.0 h.1), no_legacy)
 
 -- ---- numbers of bytes
-
-bytes_append : (xs ys : List ℕ) → bytes (xs ++ ys) ≡ bytes xs + bytes ys
-bytes_append xs ys = ap length (encodes-append xs ys) ∙ length-append (encode_utf8_all xs) (encode_utf8_all ys)
 
 bytes_own : (own : List ℕ) → IsUtf8 own → bytes (chars own) ≡ length own
 bytes_own own u = ap length (encodes-chars own u)
@@ -303,17 +301,6 @@ module _ (goal : Goal) (end : ℕ) (N : ℕ → ℕ → Type 0) where
   inner_class TemplateTail own k f e = inl f.kind_of
   inner_class TemplateEnd own k f e = inr f.kind_of
 
-  not_starting : (q : Pen) (s : State) → (q.at_start ≡ true → s ≡ Fresh) → (s ≡ Fresh → ⊥) → q.at_start ≡ false
-  not_starting q s f n = ⊎_elim (λ (e : q.at_start ≡ true). absurd (n (f e))) (λ (e : q.at_start ≡ false). e) (cases_Bool q.at_start)
-
-  -- an empty text is characters of a template alone
-  empty_running : (k : Category) (q : Pen) (s : State) → Front k [] → takes k s ≡ true → (q.at_start ≡ true → s ≡ Fresh) → q.at_start ≡ false
-  empty_running k q s f t st = by s (subst (λ (x : Category). takes x s ≡ true) (front_nil k f) t) st
-    where
-      by : (s : State) → takes Quasi s ≡ true → (q.at_start ≡ true → s ≡ Fresh) → q.at_start ≡ false
-      by Shut t st = not_starting q Shut st (λ e. cc)
-      by _ t st = absurd (false≢true t)
-
   -- one text by the automaton
   goes_tiled : (g : LexicalGoal) (own : List ℕ) (x : Item) (xs : List Item) (q : Pen) (s : State) (us : List Blankness) (first : Bool) (a : Spacing) (last : ℕ)
       → ((ts r : Input) → IsSaid g own a ts Touching r → lo ts ≡ place end (chars own ++ chars (wrote (spread xs) (after_text own q))) → SaysItem N x a ts Touching r)
@@ -324,7 +311,7 @@ module _ (goal : Goal) (end : ℕ) (N : ℕ → ℕ → Type 0) where
       → Tiled goal end N (x ∷ xs) (gap_before us (chars (own_text own q ++ wrote (spread xs) (after_text own q)))) first a last
   goes_tiled g own x xs q s us first a last say l h m e go =
       let t = when_so (takes h.0 s) (GoesAll xs (behind h.0 s)) h.2 in
-      let empty : own ≡ [] → q.at_start ≡ false = λ n. empty_running h.0 q s (subst (λ (o : List ℕ). Front h.0 o) (ap chars n ∙ chars-nil) h.1.front) t.0 m.starts in
+      let empty : own ≡ [] → q.at_start ≡ false = λ n. empty_runs h.0 s q (subst (λ (o : List ℕ). Front h.0 o) (ap chars n ∙ chars-nil) h.1.front) t.0 m.starts in
       let ran : (after_text own q).at_start ≡ false = runs own q empty in
       let l2 = text_lines own q l in
       text_tiled g own h.0 x xs q s us first a last (wrote (spread xs) (after_text own q)) say l h.1 t.0 empty (inner_class g own h.0 h.1) m

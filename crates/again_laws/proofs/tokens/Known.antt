@@ -1,6 +1,6 @@
 -- The tokens that tile a text of scalar values are known: what is left behind each is such a text again.
-use Rattle.std.proofs.Common.{◌≡◌, ℕ, ◌+◌, inl, inr, ⊎_elim, Bool, true, false, ◌&&◌, List, [], ◌∷◌, ◌++◌, refl, sym, ap, ◌∙◌}
-use Rattle.std.proofs.lemmas.Bool.{and_parts}
+use Rattle.std.proofs.Common.{◌≡◌, ℕ, ◌+◌, inl, inr, ⊎_elim, Bool, true, false, List, [], ◌∷◌, ◌++◌, refl, sym, ap, ◌∙◌}
+use Rattle.std.proofs.lemmas.Bool.{and_parts, and_from}
 use Rattle.std.specs.Prelude.{◌||◌, nat_le}
 use Rattle.std.specs.Char.{IsScalar}
 use lib.Utf8.{scalars, scalar}
@@ -16,6 +16,7 @@ use Rattle.lex_literal.specs.Templates as templates
 use Rattle.lex_token.specs.declared.goal.LexicalGoal.{LexicalGoal}
 use Rattle.lex_token.specs.declared.goal.LexicalGoal.TheVariants.{Div, RegExp, TemplateTail, TemplateEnd}
 use Rattle.lex_token.specs.Lexemes.{SpecLexeme, IsLexeme, IsOutside}
+use Rattle.lex_run_laws.proofs.Behind.{same_ending}
 use Rattle.grammar_spec.specs.Tokens.Input.{PlacedToken, template_goal}
 use Rattle.grammar_text_spec.specs.Tiled.{goal_at, whole, IsBeforeBy, AreTiles, AfterHashbang}
 use Rattle.again_laws.specs.Tokens.Means.{Known}
@@ -27,13 +28,9 @@ pub scalars_behind : (xs ys : List ℕ) → scalars (xs ++ ys) ≡ true → scal
 scalars_behind [] ys e = e
 scalars_behind (x ∷ xs) ys e = scalars_behind xs ys (and_parts (scalar x) (scalars (xs ++ ys)) e).1
 
-both_true : (a b : Bool) → a ≡ true → b ≡ true → (a && b) ≡ true
-both_true true b e f = f
-both_true false b e f = e
-
 pub scalars_front : (xs ys : List ℕ) → scalars (xs ++ ys) ≡ true → scalars xs ≡ true
 scalars_front [] ys e = refl
-scalars_front (x ∷ xs) ys e = let p = and_parts (scalar x) (scalars (xs ++ ys)) e in both_true (scalar x) (scalars xs) p.0 (scalars_front xs ys p.1)
+scalars_front (x ∷ xs) ys e = let p = and_parts (scalar x) (scalars (xs ++ ys)) e in and_from (scalar x) (scalars xs) p.0 (scalars_front xs ys p.1)
 
 digits_behind : (d : List ℕ) (v : ℕ) (rest : List ℕ) → IsDigits d v rest → scalars d ≡ true → scalars rest ≡ true
 digits_behind d v rest (inl h) s = scalars_behind (h.0 ∷ h.1 ∷ h.2 ∷ h.3 ∷ []) rest (sym (ap scalars h.4) ∙ s)
@@ -72,10 +69,6 @@ spell_left : (first : Bool) (text name rest : List ℕ) → Spell first text nam
 spell_left first text [] rest h s = sym (ap scalars h) ∙ s
 spell_left first text (c ∷ cs) rest h s = spell_left false h.0 cs rest h.2 (name_char first text c h.0 s h.1).1
 
-ends_same : (e : Ending) (a b r : List ℕ) → templates.Ends e a r → templates.Ends e b r → a ≡ b
-ends_same BackQuote a b r f g = f ∙ sym g
-ends_same Substitution a b r f g = f ∙ sym g
-
 ends_left : (e : Ending) (text rest : List ℕ) → templates.Ends e text rest → scalars text ≡ true → scalars rest ≡ true
 ends_left BackQuote text rest e s = left (96 ∷ []) rest text e s
 ends_left Substitution text rest e s = left (36 ∷ 123 ∷ []) rest text e s
@@ -92,7 +85,7 @@ outside_left goal text x rest (inr (inr h)) s = left h.1.1.1.0 rest text h.1.1.1
 lexeme_left : (goal : LexicalGoal) (text : List ℕ) (x : SpecLexeme) (rest : List ℕ) → IsLexeme goal text x rest → scalars text ≡ true → scalars rest ≡ true
 lexeme_left Div text x rest h s = outside_left Div text x rest h s
 lexeme_left RegExp text x rest h s = outside_left RegExp text x rest h s
-lexeme_left TemplateTail text x rest h s = let p = h.4 in left h.0 rest text (p.4 ∙ ap (λ (l : List ℕ). h.0 ++ l) (ends_same h.2 p.1 rest h.3 p.3 h.5)) s
+lexeme_left TemplateTail text x rest h s = let p = h.4 in left h.0 rest text (p.4 ∙ ap (λ (l : List ℕ). h.0 ++ l) (same_ending h.2 p.1 rest h.3 p.3 h.5)) s
 lexeme_left TemplateEnd text x rest h s = ends_left h.0 text rest h.1 s
 
 tiles_known : (end : ℕ) (goal : Goal) (first : Bool) (text : List ℕ) (ps : List PlacedToken) → scalars text ≡ true → AreTiles end goal first text ps → Known ps

@@ -12,20 +12,20 @@ use Rattle.base_token.specs.Words.{own_words, own_text, text_among, kind_of}
 use Rattle.base_token.specs.Tokens.{Content, bare}
 use Rattle.base_token.specs.TokenViews.{token_kind_number}
 use Rattle.base_token.specs.declared.token.TokenKind.{TokenKind}
-use Rattle.lex_pieces.specs.Characters.{is_decimal_digit, is_name_start}
-use Rattle.lex_pieces.specs.Names.{Spell}
-use Rattle.lex_pieces.specs.Punctuators.{Spelling, punctuators as spellings, IsAmong, IsNumberDot}
+use Rattle.lex_pieces.specs.Characters.{is_decimal_digit}
+use Rattle.lex_pieces.specs.Punctuators.{punctuators as spellings, IsNumberDot}
 use Rattle.lex_literal.specs.declared.template.Ending.TheVariants.{BackQuote, Substitution}
 use Rattle.lex_token.specs.declared.goal.LexicalGoal.TheVariants.{Div, TemplateEnd}
 use Rattle.lex_token.specs.Lexemes.{SpecLexeme, IsLexeme, plain, word_lexeme}
 use Rattle.lex_token.proofs.LexemeLemmas.{one_lexeme}
 use Rattle.lex_token.proofs.SpelledLemmas.{encoded}
+use Rattle.lex_run_laws.proofs.Marks.{is_some_text, some_text}
 use Rattle.print_layout_spec.specs.Words.{sign_of}
 use Rattle.again_laws.specs.Tokens.Means.{Means, TellsKinds}
 use Rattle.again_laws.specs.Tokens.Texts.{punctuators, mark_text, ending_text, word_text}
 use Rattle.again_laws.proofs.tokens.Ascii.{ascii, is_ascii}
 use Rattle.again_laws.proofs.tokens.Punctuators.{look, stays, all_stay, punctuates, always}
-use Rattle.again_laws.proofs.tokens.PlainWords.{is_plain_word, are_parts, spell_parts}
+use Rattle.again_laws.proofs.tokens.PlainWords.{is_plain_word, are_parts, plain_word_is}
 use Rattle.lex_token.proofs.SortLemmas.{word_begins, string_begins}
 use Rattle.lex_literal.proofs.NumeralLemmas.{numeral_starts}
 
@@ -75,13 +75,6 @@ mark_read k s a e =
       plainly = refl;
     }
 
-word_is : (c : ℕ) (cs : List ℕ) → is_plain_word (c ∷ cs) ≡ true → IsLexeme Div (c ∷ cs) (word_lexeme (c ∷ cs) false) []
-unfolding is_plain_word
-word_is c cs e =
-    let p = and_parts (is_name_start c) _ e in
-    let q = and_parts (is_ascii (c ∷ cs)) (are_parts cs) p.1 in
-    inl (inl (c ∷ cs, false, ((λ (n : c ∷ cs ≡ []). cc), (cs, (p.0, inl refl), subst (λ (l : List ℕ). Spell false l cs []) (append-nil cs) (spell_parts cs [] q.1)), tt), sym (append-nil (c ∷ cs)), refl))
-
 none_plain : is_plain_word [] ≡ true → false ≡ true
 unfolding is_plain_word
 none_plain e = e
@@ -94,7 +87,7 @@ word_read k (c ∷ cs) a e =
     let x = ascii (c ∷ cs) a in
     let same : encode_utf8_all (c ∷ cs) ≡ c ∷ cs = sym (ap encode_utf8_all x.same) ∙ sym (encoded (c ∷ cs) x.utf8) in record {
       lexeme = word_lexeme (c ∷ cs) false;
-      is_own = subst (λ (l : List ℕ). IsLexeme Div l (word_lexeme (c ∷ cs) false) []) (sym x.same) (word_is c cs p.0);
+      is_own = subst (λ (l : List ℕ). IsLexeme Div l (word_lexeme (c ∷ cs) false) []) (sym x.same) (plain_word_is c cs p.0);
       kind_is = ap kind_of same ∙ eqb-true (kind_of (c ∷ cs)) k p.1;
       plainly = refl;
     }
@@ -107,26 +100,7 @@ text_read k s e =
 
 -- ---- no token is nothing
 
-filled : List ℕ → Bool
-filled [] = false
-filled (c ∷ cs) = true
-
-unfoldable all_filled : List Spelling → Bool
-all_filled [] = true
-all_filled (x ∷ xs) = filled x.0 && all_filled xs
-
-spellings_filled : all_filled spellings ≡ true
-unfolding all_filled filled
-spellings_filled = refl
-
-one_filled : (xs : List Spelling) (s : List ℕ) (k : TokenKind) → all_filled xs ≡ true → IsAmong xs s k → filled s ≡ true
-unfolding all_filled
-one_filled [] s k e h = absurd h
-one_filled (x ∷ xs) s k e (inl h) = subst (λ (l : List ℕ). filled l ≡ true) h.0 (and_parts (filled x.0) (all_filled xs) e).0
-one_filled (x ∷ xs) s k e (inr h) = one_filled xs s k (and_parts (filled x.0) (all_filled xs) e).1 h
-
-front_none : (s r : List ℕ) → [] ≡ s ++ r → filled s ≡ true → ⊥
-unfolding filled
+front_none : (s r : List ℕ) → [] ≡ s ++ r → is_some_text s ≡ true → ⊥
 front_none [] r e f = false≢true f
 front_none (c ∷ cs) r e f = cc
 
@@ -135,7 +109,7 @@ no_lexeme l (inl (inl h)) = false≢true (word_begins [] h.0 [] h.2)
 no_lexeme l (inl (inr (inl h))) = false≢true (numeral_starts h.0 h.1 [] [] h.2)
 no_lexeme l (inl (inr (inr h))) = false≢true (string_begins h.0 h.2 [] [] h.3)
 no_lexeme l (inr (inl h)) = false≢true h.0
-no_lexeme l (inr (inr h)) = front_none h.1.1.1.0 [] h.1.1.1.2 (one_filled spellings h.1.1.1.0 h.1.0 spellings_filled h.1.1.1.1)
+no_lexeme l (inr (inr h)) = front_none h.1.1.1.0 [] h.1.1.1.2 (some_text h.1.1.1.0 h.1.0 h.1.1.1.1)
 
 -- ---- tables
 

@@ -1,45 +1,16 @@
--- Of which sort nodes are, and what is not asked of a sort.
+-- What is not asked of a sort.
 use Rattle.std.proofs.Common.{◌≡◌, true, false, None, refl, sym}
 use Rattle.tree_spec.specs.Tree.{Tree, while_stmt, do_while_stmt, for_stmt, for_in_stmt, for_of_stmt, labeled_stmt, block_stmt, using_decl, expr_stmt, ident, paren_expr, member_expr, super_prop_expr, binding_ident, absent, super, param}
 use Rattle.grammar_spec.specs.Tokens.Shape.{is_bound_name, is_directive}
 use Rattle.grammar_spec.specs.Judge.Early.{is_loop, is_updatable, name_in}
-use Rattle.tree_nodes.specs.declared.declarations.DeclOf.{DeclOf}
-use Rattle.tree_nodes.specs.declared.declarations.DeclOf.TheVariants as Decl
-use Rattle.tree_nodes.specs.declared.literals.Lit.{Lit}
-use Rattle.tree_nodes.specs.declared.expressions.ExprKindOf.{ExprKindOf}
-use Rattle.tree_nodes.specs.declared.expressions.ExprKindOf.TheVariants as ExprKind
-use Rattle.tree_nodes.specs.declared.statements.StmtKindOf.{StmtKindOf}
-use Rattle.tree_nodes.specs.declared.statements.StmtKindOf.TheVariants as StmtKind
-use Rattle.tree_nodes.specs.declared.patterns.PatKindOf.{PatKindOf}
-use Rattle.tree_nodes.specs.declared.patterns.PatKindOf.TheVariants as PatKind
 use Rattle.tree_nodes.specs.declared.programs.ModuleDeclOf.{ModuleDeclOf}
 use Rattle.tree_nodes.specs.declared.programs.ModuleDeclOf.TheVariants as ModuleDecl
-use Rattle.tree_nodes.specs.View.{view_decl, view_lit, view_expr_kind, view_module_decl, view_pat_kind, view_stmt_kind}
+use Rattle.tree_nodes.specs.View.{view_module_decl}
 use Rattle.judge.specs.Faults.Asked.{is_child, own_of, use_strict_of, using_of}
-use Rattle.judge.specs.Faults.Sorts.{expression, statement, pattern, sort_of, is_expression, is_statement, is_pattern, is_sorted}
+use Rattle.tree_nodes.specs.Sorts.{sort_of, is_expression, is_statement, is_pattern, is_sorted}
 
 clash : {A : Type 0} → true ≡ false → A
 clash h = absurd cc
-
-lit_sort : (l : Lit) → sort_of (view_lit l) ≡ expression
-lit_sort (Lit.Str x) = refl
-lit_sort l = refl
-
-decl_sort : {T : Type 0} (f : T → Tree) (d : DeclOf T) → sort_of (view_decl f d) ≡ statement
-decl_sort f (Decl.Class x) = refl
-decl_sort f d = refl
-
-pub expr_sort : {T : Type 0} (f : T → Tree) (k : ExprKindOf T) → sort_of (view_expr_kind f k) ≡ expression
-expr_sort f (ExprKind.Lit l) = lit_sort l
-expr_sort f k = refl
-
-pub stmt_sort : {T : Type 0} (f : T → Tree) (k : StmtKindOf T) → sort_of (view_stmt_kind f k) ≡ statement
-stmt_sort f (StmtKind.Decl d) = decl_sort f d
-stmt_sort f k = refl
-
-pub pat_sort : {T : Type 0} (f : T → Tree) (k : PatKindOf T) → sort_of (view_pat_kind f k) ≡ pattern
-pat_sort f (PatKind.Ident x) = refl
-pat_sort f k = refl
 
 -- ---- what is asked of one sort alone
 

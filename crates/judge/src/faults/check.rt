@@ -138,6 +138,7 @@ pub(crate) fn is_there<T: Held, K>(child: &Option<Child<T, K>>) -> bool
 {
     match child {
         Some(x) => {
+            // For the proof: `is_child` is a law of children; the call brings what it says.
             x.part.is_child();
             true
         }

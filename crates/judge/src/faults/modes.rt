@@ -28,6 +28,7 @@ impl<T: Held> Bare for ParamOf<T> {
 impl<T: Held> Bare for Child<T, PatTag> {
     #[tactic(auto, using(crate::proofs::faults::Asking::child_bare))]
     fn is_bare(&self) -> bool {
+        // For the proof: `is_child` is a law of children; the call brings what it says.
         self.part.is_child();
         self.part.is_bound_name()
     }

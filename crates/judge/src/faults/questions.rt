@@ -2,95 +2,15 @@
 ghost use Rattle.std.specs.Prelude.{◌≡◌, true, false, MatchOption, Some, None};
 ghost use Rattle.grammar_spec.specs.Tokens.Shape.{is_bound_name, is_directive};
 ghost use Rattle.tree_nodes.specs.Placed.{inner};
-ghost use Rattle.tree_nodes.specs.View.{view_expr_kind, view_ident, view_pat_kind, view_stmt_kind};
+ghost use Rattle.tree_nodes.specs.View.{view_ident};
 ghost use Rattle.grammar_spec.specs.Judge.Early.{is_loop, is_updatable, name_in, own_use_strict};
 ghost use Rattle.tree_spec.specs.Tree.{trees_by};
 ghost use Rattle.judge.specs.Faults.Asked.{own_of, use_strict_of, using_of};
-ghost use Rattle.judge.specs.Faults.Sorts.{expression, is_expression, is_pattern, is_statement, is_sorted, pattern, sort_of, statement};
 
 use crate::faults::check::Held;
 use base_token::Span;
 use std::convert::AsStr;
-use tree_nodes::{
-    DeclOf, Expr, ExprKind, Ident, Lit, Part, PartKind, Pat, PatKind, Stmt, StmtBox, StmtKind,
-};
-
-/// Law: each kind of expression is an expression.
-fn expr_sort(kind: &ExprKind)
-    ensures { sort_of (view_expr_kind inner kind.now) ≡ expression }
-{}
-
-/// Law: each kind of statement is a statement.
-fn stmt_sort(kind: &StmtKind)
-    ensures { sort_of (view_stmt_kind inner kind.now) ≡ statement }
-{}
-
-/// Law: each kind of pattern is a pattern.
-fn pat_sort(kind: &PatKind)
-    ensures { sort_of (view_pat_kind inner kind.now) ≡ pattern }
-{}
-
-/// Law: a part is of one of the sorts.
-fn part_sort(part: &Part)
-    ensures { is_sorted (sort_of (inner part.now)) ≡ true }
-{
-    match &part.sort {
-        PartKind::Expr(x) => expr_sort(&x.kind),
-        PartKind::Stmt(x) => stmt_sort(&x.kind),
-        PartKind::Pat(x) => pat_sort(&x.kind),
-    }
-}
-
-/// The expression that a part is.
-fn as_expr(part: &Part) -> Option<&Expr>
-    ensures { MatchOption result (is_expression (sort_of (inner part.now)) ≡ false) (λ x. inner part.now ≡ x.now) }
-{
-    match &part.sort {
-        PartKind::Expr(x) => Some(x),
-        PartKind::Stmt(x) => {
-            stmt_sort(&x.kind);
-            None
-        }
-        PartKind::Pat(x) => {
-            pat_sort(&x.kind);
-            None
-        }
-    }
-}
-
-/// The statement that a part is.
-fn as_stmt(part: &Part) -> Option<&Stmt>
-    ensures { MatchOption result (is_statement (sort_of (inner part.now)) ≡ false) (λ x. inner part.now ≡ x.now) }
-{
-    match &part.sort {
-        PartKind::Expr(x) => {
-            expr_sort(&x.kind);
-            None
-        }
-        PartKind::Stmt(x) => Some(x),
-        PartKind::Pat(x) => {
-            pat_sort(&x.kind);
-            None
-        }
-    }
-}
-
-/// The pattern that a part is.
-fn as_pat(part: &Part) -> Option<&Pat>
-    ensures { MatchOption result (is_pattern (sort_of (inner part.now)) ≡ false) (λ x. inner part.now ≡ x.now) }
-{
-    match &part.sort {
-        PartKind::Expr(x) => {
-            expr_sort(&x.kind);
-            None
-        }
-        PartKind::Stmt(x) => {
-            stmt_sort(&x.kind);
-            None
-        }
-        PartKind::Pat(x) => Some(x),
-    }
-}
+use tree_nodes::{DeclOf, Expr, ExprKind, Ident, Lit, Part, Stmt, StmtBox, StmtKind, law};
 
 /// Whether a statement is a loop, or a loop behind labels.
 fn is_loop(stmt: &Stmt) -> bool
@@ -172,12 +92,12 @@ fn is_updatable(expr: &Expr) -> bool
 impl Held for Part {
     #[tactic(auto, using(crate::proofs::faults::Sorted::child_sort))]
     fn is_child(&self) {
-        part_sort(self);
+        law::is_sorted(self);
     }
 
     #[tactic(auto, using(crate::proofs::faults::Sorted::loop_sort))]
     fn is_loop(&self) -> bool {
-        match as_stmt(self) {
+        match self.as_stmt() {
             Some(x) => is_loop(x),
             None => false,
         }
@@ -185,7 +105,7 @@ impl Held for Part {
 
     #[tactic(auto, using(crate::proofs::faults::Sorted::directive_sort))]
     fn is_directive(&self) -> bool {
-        match as_stmt(self) {
+        match self.as_stmt() {
             Some(x) => x.is_directive(),
             None => false,
         }
@@ -193,7 +113,7 @@ impl Held for Part {
 
     #[tactic(auto, using(crate::proofs::faults::Sorted::use_strict_sort))]
     fn use_strict(&self) -> Option<Span> {
-        match as_stmt(self) {
+        match self.as_stmt() {
             Some(x) => use_strict(x),
             None => None,
         }
@@ -201,7 +121,7 @@ impl Held for Part {
 
     #[tactic(auto, using(crate::proofs::faults::Sorted::own_sort))]
     fn own_use_strict(&self) -> Option<Span> {
-        match as_stmt(self) {
+        match self.as_stmt() {
             Some(x) => match &x.kind {
                 StmtKind::Block(block) => block_use_strict(block.stmts.as_slice()),
                 _ => None,
@@ -212,7 +132,7 @@ impl Held for Part {
 
     #[tactic(auto, using(crate::proofs::faults::Sorted::using_sort))]
     fn using_place(&self) -> Option<Span> {
-        match as_stmt(self) {
+        match self.as_stmt() {
             Some(x) => match &x.kind {
                 StmtKind::Decl(DeclOf::Using(decl)) => Some(decl.span),
                 _ => None,
@@ -223,7 +143,7 @@ impl Held for Part {
 
     #[tactic(auto, using(crate::proofs::faults::Sorted::updatable_sort))]
     fn is_updatable(&self) -> bool {
-        match as_expr(self) {
+        match self.as_expr() {
             Some(x) => is_updatable(x),
             None => false,
         }
@@ -231,7 +151,7 @@ impl Held for Part {
 
     #[tactic(auto, using(crate::proofs::faults::Sorted::name_sort))]
     fn name(&self) -> Option<&Ident> {
-        match as_expr(self) {
+        match self.as_expr() {
             Some(x) => name(x),
             None => None,
         }
@@ -239,7 +159,7 @@ impl Held for Part {
 
     #[tactic(auto, using(crate::proofs::faults::Sorted::bound_sort))]
     fn is_bound_name(&self) -> bool {
-        match as_pat(self) {
+        match self.as_pat() {
             Some(x) => x.as_ident().is_some(),
             None => false,
         }

@@ -37,6 +37,7 @@ pub(crate) fn is_super<T: Held>(callee: &CalleeOf<T>) -> bool
         CalleeOf::Super(_) => true,
         CalleeOf::Import(_) => false,
         CalleeOf::Expr(x) => {
+            // For the proof: `is_child` is a law of children; the call brings what it says.
             x.part.is_child();
             false
         }

@@ -44,6 +44,7 @@ pub fn drop_front(block: &mut ArrayVec<u8, BLOCK>, count: usize)
 }
 
 /// Puts bytes behind those of a block, which has room for them.
+#[inline(always)]
 pub fn extend(block: &mut ArrayVec<u8, BLOCK>, bytes: &[u8])
     requires { array_vec_len block.old + length bytes.now ≤ BLOCK }
     ensures items { block.new.items ≡ block.old.items ++ bytes.now }

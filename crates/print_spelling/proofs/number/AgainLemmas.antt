@@ -5,13 +5,14 @@ use Rattle.std.specs.Str.Parse.{AllDigits}
 use Rattle.std.proofs.lemmas.Bool.{cases_Bool, eqb-true}
 use Rattle.std.proofs.lemmas.Bool.Decides.{nat_tests}
 use Rattle.std.proofs.lemmas.List.Elements.{filter-append}
+use Rattle.std.proofs.lemmas.Option.{same_Some}
 use Rattle.base_number.specs.Numbers.{SpecNumber, Scaled, InRadix, number_of, numeral, prefix_radix, radix_of_letter, decimal_number, is_legacy_octal, plain, IsCanonical, IsDecimal}
+use Rattle.base_number.proofs.NumberLemmas.{first_not_zero, all_appended}
 use Rattle.print_spelling.specs.declared.style.Style.{Style}
 use Rattle.print_spelling.specs.Styles.{is_below_es2021, is_up_to_es5}
 use Rattle.print_spelling.specs.Number.Numbers.{zeros, large_text, small_text, scaled_text, letter, minified, HasPrefix, is_prefixed, is_new_prefix, whole_digits, whole_text, separated, in_edition, FormattedAgain}
-use Rattle.print_spelling.proofs.number.MinifiedLemmas.{plain_digits, all_on, all_zeros, all_taken, all_dropped, no_prefix, numeral_is, letter_is}
-use Rattle.print_spelling.proofs.number.PlainLemmas.{plain_here, plain_twice, second_here, separator_first, letter_here, legacy_plain, none_some, some_list, is_unprefixed}
-use Rattle.print_spelling.proofs.number.TakesPointLemmas.{no_zero}
+use Rattle.print_spelling.proofs.number.MinifiedLemmas.{plain_digits, all_zeros, all_taken, all_dropped, no_prefix, numeral_is, letter_is}
+use Rattle.print_spelling.proofs.number.PlainLemmas.{plain_here, plain_twice, second_here, separator_first, letter_here, legacy_plain, none_some, is_unprefixed}
 
 -- ---- a prefix stays
 
@@ -122,12 +123,12 @@ module _ (style : Style) where
 -- ---- whole digits and minified numbers have no separators
 
 whole_digits_plain : (ds : List ℕ) (n : ℕ) → AllDigits 10 ds → (t : List ℕ) → whole_digits ds n ≡ Some t → plain t ≡ t
-whole_digits_plain [] n a t e = ap plain (sym (some_list (48 ∷ []) t e)) ∙ some_list (48 ∷ []) t e
+whole_digits_plain [] n a t e = ap plain (sym (same_Some (48 ∷ []) t e)) ∙ same_Some (48 ∷ []) t e
 whole_digits_plain (d ∷ ds) n a t e = ⊎_elim
     (λ (b : nat_lt n 20 ≡ true).
     let same : (d ∷ ds) ++ zeros n [] ≡ t =
-    some_list ((d ∷ ds) ++ zeros n []) t (sym (ap (λ x. if x then Some ((d ∷ ds) ++ zeros n []) else None) b) ∙ e) in
-    ap plain (sym same) ∙ plain_digits 10 ((d ∷ ds) ++ zeros n []) (omega arith) (all_on 10 (d ∷ ds) (zeros n []) a (all_zeros n [] tt)) ∙ same)
+    same_Some ((d ∷ ds) ++ zeros n []) t (sym (ap (λ x. if x then Some ((d ∷ ds) ++ zeros n []) else None) b) ∙ e) in
+    ap plain (sym same) ∙ plain_digits 10 ((d ∷ ds) ++ zeros n []) (omega arith) (all_appended 10 (d ∷ ds) (zeros n []) a (all_zeros n [] tt)) ∙ same)
     (λ (b : nat_lt n 20 ≡ false). none_some (sym (ap (λ x. if x then Some ((d ∷ ds) ++ zeros n []) else None) b) ∙ e))
     (cases_Bool (nat_lt n 20))
 
@@ -162,7 +163,7 @@ module _ (d : ℕ) (ds : List ℕ) (a : AllDigits 10 (d ∷ ds)) (z : (d == 48) 
   large_free n =
       by_test Free (nat_lt n 3) ((d ∷ ds) ++ zeros n []) ((d ∷ ds) ++ 101 ∷ numeral n)
       (record {
-        same = plain_digits 10 ((d ∷ ds) ++ zeros n []) (omega arith) (all_on 10 (d ∷ ds) (zeros n []) a (all_zeros n [] tt));
+        same = plain_digits 10 ((d ∷ ds) ++ zeros n []) (omega arith) (all_appended 10 (d ∷ ds) (zeros n []) a (all_zeros n [] tt));
         bare = no_prefix d (ds ++ zeros n []) z;
       })
       (record {
@@ -198,8 +199,8 @@ module _ (d : ℕ) (ds : List ℕ) (a : AllDigits 10 (d ∷ ds)) (z : (d == 48) 
 
 scaled_free : (ds : List ℕ) (x : ℤ) → IsDecimal ds x → Free (scaled_text ds x)
 scaled_free [] x c = record { same = refl; bare = refl }
-scaled_free (d ∷ ds) (pos n) c = large_free d ds c.decimal (no_zero d ds c.front) n
-scaled_free (d ∷ ds) (negsuc n) c = small_free d ds c.decimal (no_zero d ds c.front) (suc n)
+scaled_free (d ∷ ds) (pos n) c = large_free d ds c.decimal (first_not_zero d ds c.front) n
+scaled_free (d ∷ ds) (negsuc n) c = small_free d ds c.decimal (first_not_zero d ds c.front) (suc n)
 
 radix_plain : (radix : ℕ) (ds : List ℕ) → is_prefixed radix ≡ true → radix ≤ 36 → AllDigits radix ds → plain (48 ∷ letter radix ∷ ds) ≡ 48 ∷ letter radix ∷ ds
 radix_plain radix ds p l a =

@@ -17,6 +17,7 @@ use Rattle.base_number.specs.Numbers.{SpecNumber, Scaled, InRadix, numeral, plai
 use Rattle.print_spelling.specs.Number.Numbers.{zeros, whole_digits, whole_text}
 use Rattle.print_spelling.specs.Number.NumberTexts.{is_separator, is_digit_byte, left_bytes}
 use Rattle.print_spelling.proofs.number.TextLemmas.{numeral_value}
+use Rattle.print_spelling.proofs.number.PlainLemmas.{plain_here}
 
 -- ---- zeros
 
@@ -40,9 +41,6 @@ whole_is (InRadix radix es) ds power e f r n =
     ∙ sym (ap (λ b. if b then whole_digits es 0 else None) (eq-eqb radix 10 r))
 
 -- ---- without separators
-
-here : (c : ℕ) (cs : List ℕ) → (c == 95) ≡ false → plain (c ∷ cs) ≡ c ∷ plain cs
-here c cs e = ap (λ b. cond (not b) (c ∷ plain cs) (plain cs)) e
 
 pub gone : (text rest : List ℕ) (c : ℕ) → IsUtf8 text → IsUtf8 rest → chars text ≡ c ∷ chars rest → c ≡ 95 → plain text ≡ plain rest
 unfolding encode
@@ -70,7 +68,7 @@ plain_split (c ∷ cs) = ⊎_elim
     (λ (e : (c == 95) ≡ true).
     sym (ap (λ n. take n (c ∷ cs) ++ plain (drop n (c ∷ cs))) (ap (λ b. cond (not b) (1 + prefix_len is_digit_byte cs) 0) e)))
     (λ (e : (c == 95) ≡ false).
-    here c cs e ∙ ap (λ (l : List ℕ). c ∷ l) (plain_split cs)
+    plain_here c cs e ∙ ap (λ (l : List ℕ). c ∷ l) (plain_split cs)
     ∙ sym (ap (λ n. take n (c ∷ cs) ++ plain (drop n (c ∷ cs))) (ap (λ b. cond (not b) (1 + prefix_len is_digit_byte cs) 0) e ∙ one-add (prefix_len is_digit_byte cs))))
     (cases_Bool (c == 95))
 

@@ -5,6 +5,7 @@ use Rattle.std.specs.Char.{is_digit, digit_value}
 use Rattle.std.specs.Str.Parse.{AllDigits}
 use Rattle.std.proofs.lemmas.Bool.{cases_Bool, eqb-true, ltb-true, false≢true}
 use Rattle.std.proofs.lemmas.Bool.Decides.{nat_tests}
+use Rattle.std.proofs.lemmas.Option.{same_Some}
 use Rattle.base_number.specs.Numbers.{plain, prefix_radix, radix_of_letter, spells_digits, goes_on, past_first, none_left, is_mark}
 use Rattle.base_number.proofs.DigitLemmas.{spelled_digits}
 use Rattle.base_number.proofs.NumberLemmas.{no_separator}
@@ -22,9 +23,6 @@ pub big_is : (text : List ℕ) → big_of text ≡ big_by (prefix_radix text) te
 unfolding big_of
 big_is text = refl
 
-letter_radix : (radix : ℕ) → is_prefixed radix ≡ true → radix_of_letter (letter radix) ≡ Some radix
-letter_radix radix h = letter_is radix h
-
 -- digits of a big integer, without `_`, are read again behind the prefix of their radix
 pub record IsBig (radix : ℕ) (ds : List ℕ) : Type 0 where
   pub again : big_of (big_prefix radix ++ ds) ≡ Some (radix, ds)
@@ -35,7 +33,7 @@ prefixed_big radix d ds p l h =
     let at : big_prefix radix ≡ 48 ∷ letter radix ∷ [] = ap (λ b. if b then [] else 48 ∷ letter radix ∷ []) other in
     let in_radix : big_of (48 ∷ letter radix ∷ d ∷ ds) ≡ Some (radix, d ∷ ds) =
     big_is (48 ∷ letter radix ∷ d ∷ ds)
-    ∙ ap (λ o. big_by o (48 ∷ letter radix ∷ d ∷ ds)) (letter_radix radix p)
+    ∙ ap (λ o. big_by o (48 ∷ letter radix ∷ d ∷ ds)) (letter_is radix p)
     ∙ ap (λ b. if b then Some (radix, plain (d ∷ ds)) else None) (digits_spelled radix d ds h)
     ∙ ap (λ x. Some (radix, x)) (plain_digits radix (d ∷ ds) l h) in
     record { again = ap (λ (x : List ℕ). big_of (x ++ (d ∷ ds))) at ∙ in_radix }
@@ -70,11 +68,8 @@ spelled_big radix c cs l make h =
     let all = spelled_digits radix false (c ∷ cs) l h in
     subst (IsBig radix) (sym first) (make c (plain cs) (subst (λ (x : List ℕ). AllDigits radix x) first all) refl)
 
-some_is : {A : Type 0} {x y : A} → Some x ≡ Some y → x ≡ y
-some_is e = cc
-
 pub some_pair : (x y : ℕ × List ℕ) → Some x ≡ Some y → (x.0 ≡ y.0) × (x.1 ≡ y.1)
-some_pair x y e = let s : x ≡ y = some_is e in (ap (λ (p : ℕ × List ℕ). p.0) s, ap (λ (p : ℕ × List ℕ). p.1) s)
+some_pair x y e = let s : x ≡ y = same_Some x y e in (ap (λ (p : ℕ × List ℕ). p.0) s, ap (λ (p : ℕ × List ℕ). p.1) s)
 
 none_some : {A B : Type 0} {x : A} → None ≡ Some x → B
 none_some e = cc

@@ -1,16 +1,16 @@
 -- A minified number has its value.
-use Rattle.std.proofs.Common.{◌≡◌, ℕ, zero, suc, ◌+◌, ◌-◌, ◌*◌, ◌^◌, ◌<◌, ◌≤◌, ⊎_elim, Bool, true, false, cond, List, [], ◌∷◌, ◌++◌, append-nil, length, length-append, length-drop, map, take, drop, refl, sym, ap, subst, ◌∙◌, arith}
+use Rattle.std.proofs.Common.{◌≡◌, ℕ, zero, suc, ◌+◌, ◌-◌, ◌*◌, ◌^◌, ◌<◌, ◌≤◌, ⊎_elim, true, false, cond, List, [], ◌∷◌, ◌++◌, append-nil, length, length-append, length-drop, map, take, drop, refl, sym, ap, subst, ◌∙◌, arith}
 use Rattle.std.specs.Prelude.{◌&&◌, ◌||◌, ◌==◌, not, nat_lt, nat_le, if◌then◌else◌, Option, Some, None, unwrap_or, ℤ, pos, negsuc, neg_ℤ, ◌+ℤ◌, ◌-ℤ◌}
 use Rattle.std.specs.Char.{digit_value, to_ascii_lowercase}
 use Rattle.std.specs.Fmt.{decimal}
 use Rattle.std.specs.Int.Digits.{digits_of, AllBelowBase, number_from_digits_after}
 use Rattle.std.specs.Str.Parse.{digits_value, digits_value_after, AllDigits}
-use Rattle.std.proofs.lemmas.Bool.{cases_Bool, lt-ltb, le-ltb, ltb-true, ltb-false, eqb-true, eqb-false}
+use Rattle.std.proofs.lemmas.Bool.{cases_Bool, lt-ltb, le-ltb, ltb-true, ltb-false, eqb-true, eqb-false, or_right}
 use Rattle.std.proofs.lemmas.Bool.Decides.{nat_tests}
 use Rattle.std.proofs.lemmas.Int.Digits.{all_below_base_digits_of, number_digits_of, length-digits_of_step}
 use Rattle.std.proofs.lemmas.List.{take-append-drop}
 use Rattle.base_number.specs.Numbers.{SpecNumber, Scaled, InRadix, number_of, number_by, prefix_radix, decimal_number, decimal_value, in_radix, spells_digits, goes_on, spells_integer, spells_mantissa, spells_exponent, exponent_value, signed, is_negative, unsigned, plain, before, after, is_mark, trim_front, trim_back, onto_trimmed, scaled, scaled_by, numeral, IsDecimal, IsLargeInRadix, radix_of_letter, none_left, spells_octal, spells_non_octal}
-use Rattle.base_number.proofs.NumberLemmas.{no_separator, first_not_zero}
+use Rattle.base_number.proofs.NumberLemmas.{no_separator, first_not_zero, all_appended}
 use Rattle.print_spelling.specs.Number.Numbers.{zeros, large_text, small_text, scaled_text, letter, is_prefixed, MinifiedIsRead}
 
 -- ---- digits
@@ -46,10 +46,6 @@ digits_go radix (d ∷ ds) h =
 pub digits_spelled : (radix d : ℕ) (ds : List ℕ) → AllDigits radix (d ∷ ds) → spells_digits radix (d ∷ ds) ≡ true
 digits_spelled radix d ds h =
     ap (λ b. cond b (goes_on radix true ds) (false && (d == 95 && goes_on radix false ds))) (lt-ltb (digit_value d) radix h.0) ∙ digits_go radix ds h.1
-
-pub all_on : (radix : ℕ) (xs ys : List ℕ) → AllDigits radix xs → AllDigits radix ys → AllDigits radix (xs ++ ys)
-all_on radix [] ys h i = i
-all_on radix (x ∷ xs) ys h i = (h.0, all_on radix xs ys h.1 i)
 
 pub all_zeros : (n : ℕ) (m : List ℕ) → AllDigits 10 m → AllDigits 10 (zeros n m)
 all_zeros zero m h = h
@@ -224,10 +220,6 @@ spelled_if : (ds : List ℕ) → AllDigits 10 ds → 0 < length ds → spells_di
 spelled_if [] h l = absurd (omega arith)
 spelled_if (d ∷ ds) h l = digits_spelled 10 d ds h
 
-pub or_true : (b : Bool) → (b || true) ≡ true
-or_true true = refl
-or_true false = refl
-
 -- ---- digits and a power of ten
 
 module _ (d : ℕ) (ds : List ℕ) (x : ℤ) (dec : IsDecimal (d ∷ ds) x) where
@@ -241,7 +233,7 @@ module _ (d : ℕ) (ds : List ℕ) (x : ℤ) (dec : IsDecimal (d ∷ ds) x) wher
   pub zeros_behind : (n : ℕ) → number_of (d ∷ (ds ++ zeros n [])) ≡ Some (Scaled (d ∷ ds) (pos n))
   zeros_behind n =
       let text : List ℕ = d ∷ (ds ++ zeros n []) in
-      let all : AllDigits 10 (d ∷ (ds ++ zeros n [])) = (dec.decimal.0, all_on 10 ds (zeros n []) dec.decimal.1 (all_zeros n [] tt)) in
+      let all : AllDigits 10 (d ∷ (ds ++ zeros n [])) = (dec.decimal.0, all_appended 10 ds (zeros n []) dec.decimal.1 (all_zeros n [] tt)) in
       let e = before_all 101 digit_no_e text all in
       unprefixed d (ds ++ zeros n []) nonzero
       ∙ in_parts text text None None (ap (before 46) e ∙ before_all 46 digit_no_point text all) (ap (after 46) e ∙ after_all 46 digit_no_point text all)
@@ -291,7 +283,7 @@ module _ (d : ℕ) (ds : List ℕ) (x : ℤ) (dec : IsDecimal (d ∷ ds) x) wher
       ∙ in_parts text i (Some f) None (ap (before 46) e ∙ before_digits 46 digit_no_point i (46 ∷ f) all_i ∙ append-nil i)
       (ap (after 46) e ∙ after_digits 46 digit_no_point i (46 ∷ f) all_i)
       (after_digits 101 digit_no_e i (46 ∷ f) all_i ∙ after_all 101 digit_no_e f all_f)
-      (ap (λ b. b && (none_left f || spells_digits 10 f)) (integer_spelled (take k ds) all_i) ∙ ap (λ b. none_left f || b) (spelled_if f all_f some) ∙ or_true (none_left f)) refl
+      (ap (λ b. b && (none_left f || spells_digits 10 f)) (integer_spelled (take k ds) all_i) ∙ ap (λ b. none_left f || b) (spelled_if f all_f some) ∙ or_right (none_left f) true refl) refl
       ∙ ap (λ y. Some (scaled (y ++ plain f) (pos 0 -ℤ pos (length (plain f))))) (plain_digits 10 i (omega arith) all_i)
       ∙ ap (λ y. Some (scaled (i ++ y) (pos 0 -ℤ pos (length y)))) (plain_digits 10 f (omega arith) all_f)
       ∙ ap (λ y. Some (scaled y (pos 0 -ℤ pos (length f)))) whole

@@ -4,15 +4,16 @@ use Rattle.std.specs.Prelude.{◌&&◌, ◌||◌, ◌==◌, not, nat_lt, if◌th
 use Rattle.std.specs.Char.{is_digit, digit_value, to_ascii_lowercase}
 use Rattle.std.specs.List.{list_all, list_any}
 use Rattle.std.specs.Str.Parse.{AllDigits}
-use Rattle.std.proofs.lemmas.Bool.{cases_Bool, ltb-true, eqb-true, false≢true, and_parts}
+use Rattle.std.proofs.lemmas.Bool.{cases_Bool, ltb-true, eqb-true, false≢true, and_parts, or_right}
 use Rattle.std.proofs.lemmas.Bool.Decides.{nat_tests}
+use Rattle.std.proofs.lemmas.Option.{same_Some}
 use Rattle.base_number.specs.Numbers.{SpecNumber, Scaled, InRadix, number_of, number_by, prefix_radix, radix_of_letter, decimal_number, decimal_value, in_radix, is_legacy_octal, spells_octal, spells_non_octal, spells_digits, spells_integer, spells_mantissa, spells_exponent, exponent_value, signed, is_negative, unsigned, plain, before, after, is_mark, none_left, past_first, scaled, trim_front, IsCanonical}
 use Rattle.base_number.proofs.DigitLemmas.{spelled_digits}
 use Rattle.print_spelling.specs.declared.style.Style.{Style}
 use Rattle.print_spelling.specs.Styles.{is_below_es2021, is_up_to_es5}
 use Rattle.print_spelling.specs.Number.Numbers.{zeros, HasPrefix, is_prefixed, is_new_prefix, whole_digits, whole_text, separated, whole_in_edition, in_edition, FormattedIsRead}
 use Rattle.print_spelling.proofs.number.BigLemmas.{first_digit, prefix_prefixed}
-use Rattle.print_spelling.proofs.number.MinifiedLemmas.{plain_digits, digits_spelled, in_parts, or_true, kept_radix, unprefixed, zeros_behind, zero_read, minified_is_read}
+use Rattle.print_spelling.proofs.number.MinifiedLemmas.{plain_digits, digits_spelled, in_parts, kept_radix, unprefixed, zeros_behind, zero_read, minified_is_read}
 
 -- ---- separators
 
@@ -117,7 +118,7 @@ integer_plain c cs h = ⊎_elim
 fraction_plain : (f : List ℕ) → (none_left f || spells_digits 10 f) ≡ true → (none_left (plain f) || spells_digits 10 (plain f)) ≡ true
 fraction_plain [] h = refl
 fraction_plain (c ∷ cs) h =
-    ap (λ b. none_left (plain (c ∷ cs)) || b) (spelled_plain 10 (c ∷ cs) (omega arith) h) ∙ or_true (none_left (plain (c ∷ cs)))
+    ap (λ b. none_left (plain (c ∷ cs)) || b) (spelled_plain 10 (c ∷ cs) (omega arith) h) ∙ or_right (none_left (plain (c ∷ cs))) true refl
 
 mantissa_plain : (i : List ℕ) (f : Option (List ℕ)) → spells_mantissa i f ≡ true → spells_mantissa (plain i) (omap f) ≡ true
 unfolding omap
@@ -372,15 +373,12 @@ edition_read style raw v text w h = or_else (whole_in_edition style raw text) (s
         (λ (b : (is_up_to_es5 style && is_new_prefix (prefix_radix raw)) ≡ false). none_some (sym (ap (λ x. if x then text else None) b) ∙ e))
         (cases_Bool (is_up_to_es5 style && is_new_prefix (prefix_radix raw)))
 
-pub some_list : (x y : List ℕ) → Some x ≡ Some y → x ≡ y
-some_list x y e = cc
-
 whole_digits_read : (ds : List ℕ) (n : ℕ) → IsCanonical (Scaled ds (pos n)) → (t : List ℕ) → whole_digits ds n ≡ Some t → number_of t ≡ Some (Scaled ds (pos n))
-whole_digits_read [] n c t e = ap number_of (sym (some_list (48 ∷ []) t e)) ∙ zero_read ∙ ap (λ y. Some (Scaled [] y)) (sym (c.zero_exponent refl))
+whole_digits_read [] n c t e = ap number_of (sym (same_Some (48 ∷ []) t e)) ∙ zero_read ∙ ap (λ y. Some (Scaled [] y)) (sym (c.zero_exponent refl))
 whole_digits_read (d ∷ ds) n c t e = ⊎_elim
     (λ (b : nat_lt n 20 ≡ true).
     let same : Some ((d ∷ ds) ++ zeros n []) ≡ Some t = sym (ap (λ x. if x then Some ((d ∷ ds) ++ zeros n []) else None) b) ∙ e in
-    ap number_of (sym (some_list ((d ∷ ds) ++ zeros n []) t same)) ∙ zeros_behind d ds (pos n) c n)
+    ap number_of (sym (same_Some ((d ∷ ds) ++ zeros n []) t same)) ∙ zeros_behind d ds (pos n) c n)
     (λ (b : nat_lt n 20 ≡ false). none_some (sym (ap (λ x. if x then Some ((d ∷ ds) ++ zeros n []) else None) b) ∙ e))
     (cases_Bool (nat_lt n 20))
 

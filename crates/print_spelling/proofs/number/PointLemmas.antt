@@ -3,7 +3,7 @@ use Rattle.std.proofs.Common.{◌≡◌, ℕ, ⊎_elim, Bool, true, false, List,
 use Rattle.std.specs.Prelude.{◌&&◌, ◌||◌, ◌==◌, not, if◌then◌else◌, Option, Some, None, unwrap_or}
 use Rattle.std.specs.Char.{is_digit}
 use Rattle.std.specs.List.{list_all}
-use Rattle.std.proofs.lemmas.Bool.{cases_Bool, false≢true, and_parts, not-true}
+use Rattle.std.proofs.lemmas.Bool.{cases_Bool, false≢true, and_parts, not-true, and_right}
 use Rattle.std.proofs.lemmas.Bool.Decides.{nat_tests}
 use Rattle.unicode_ident.proofs.IdentLemmas.{is_xid_start-ascii}
 use Rattle.base_number.specs.Numbers.{SpecNumber, number_of, prefix_radix, radix_of_letter, decimal_number, decimal_value, is_legacy_octal, spells_mantissa, spells_exponent, before, after, is_mark, none_left}
@@ -77,15 +77,11 @@ fails_point : (p : ℕ → Bool) → p 46 ≡ false → (xs : List ℕ) → list
 fails_point p e [] = ap (λ b. b && true) e
 fails_point p e (x ∷ xs) = elim (p x) as (λ b. (b && list_all p (xs ++ 46 ∷ [])) ≡ false) [ true ↦ fails_point p e xs | false ↦ refl ]
 
-and_false : (b : Bool) → (b && false) ≡ false
-and_false true = refl
-and_false false = refl
-
 no_legacy_point : (xs : List ℕ) → is_legacy_octal (xs ++ 46 ∷ []) ≡ false
 no_legacy_point [] = refl
 no_legacy_point (c ∷ cs) =
     ap (λ b. c == 48 && (not (none_left (cs ++ 46 ∷ [])) && b)) (fails_point (λ x. is_digit x 8) refl cs)
-    ∙ ap (λ b. c == 48 && b) (and_false (not (none_left (cs ++ 46 ∷ [])))) ∙ and_false (c == 48)
+    ∙ ap (λ b. c == 48 && b) (and_right (not (none_left (cs ++ 46 ∷ []))) false refl) ∙ and_right (c == 48) false refl
 
 -- ---- a number with a point behind it
 
@@ -116,7 +112,7 @@ pointed v text t h =
 point_free : is_barred 46 ≡ false
 point_free = ap (λ t. (t || false) || false) (is_xid_start-ascii 46 (omega arith))
 
-takes_no_more : (text : List ℕ) → takes_point (text ++ 46 ∷ []) ≡ false
+pub takes_no_more : (text : List ℕ) → takes_point (text ++ 46 ∷ []) ≡ false
 takes_no_more text = ap (λ b. b && not (is_legacy_octal (text ++ 46 ∷ []))) (fails_point is_digit_or_separator refl text)
 
 pub member_stands : MemberStands

@@ -4,10 +4,12 @@ use Rattle.std.specs.Prelude.{◌==◌, ◌&&◌, ◌||◌, not, nat_lt, nat_le,
 use Rattle.std.specs.Char.{is_digit, digit_value}
 use Rattle.std.specs.List.{list_all, list_any}
 use Rattle.std.specs.Str.Parse.{digits_value, AllDigits}
-use Rattle.std.proofs.lemmas.Bool.{cases_Bool, cases_lt, eq-eqb, eqb-true, ne_eqb, false≢true, lt-ltb, le-ltb, and_parts}
+use Rattle.std.proofs.lemmas.Bool.{cases_Bool, cases_lt, eq-eqb, eqb-true, ne_eqb, false≢true, lt-ltb, le-ltb, and_parts, and_right}
+use Rattle.std.proofs.lemmas.Option.{same_Some}
 use Rattle.lex_literal.specs.Escapes.{begins}
 use Rattle.lex_literal.specs.Standing.{is_digit_or_separator, takes_point}
 use Rattle.base_number.specs.Numbers.{SpecNumber, Scaled, InRadix, numeral, plain, trim_front, none_left, is_legacy_octal, number_digits, number_exponent, number_radix, is_below_zero, IsCanonical}
+use Rattle.base_number.proofs.NumberLemmas.{first_not_zero}
 use Rattle.print_spelling.specs.Number.Numbers.{zeros, large_text, small_text, scaled_text, letter, minified, whole_digits, whole_text, whole_in_edition, separated, in_edition}
 use Rattle.print_spelling.specs.declared.style.Style.{Style}
 use Rattle.print_spelling.specs.declared.number.text.NumberText.{NumberText}
@@ -16,13 +18,9 @@ use Rattle.print_spelling.proofs.number.TextLemmas.{numeral_value}
 
 -- ---- texts with something else among them
 
-and_false : (b : Bool) → (b && false) ≡ false
-and_false true = refl
-and_false false = refl
-
 no_digits : (xs ys : List ℕ) (c : ℕ) → is_digit_or_separator c ≡ false → list_all is_digit_or_separator (xs ++ c ∷ ys) ≡ false
 no_digits [] ys c e = ap (λ b. b && list_all is_digit_or_separator ys) e
-no_digits (x ∷ xs) ys c e = ap (λ b. is_digit_or_separator x && b) (no_digits xs ys c e) ∙ and_false (is_digit_or_separator x)
+no_digits (x ∷ xs) ys c e = and_right (is_digit_or_separator x) (list_all is_digit_or_separator (xs ++ c ∷ ys)) (no_digits xs ys c e)
 
 none_taken : (text : List ℕ) → list_all is_digit_or_separator text ≡ false → takes_point text ≡ false
 none_taken text e = ap (λ b. b && not (is_legacy_octal text)) e
@@ -43,26 +41,10 @@ all_zeros : (n : ℕ) → list_all is_digit_or_separator (zeros n []) ≡ true
 all_zeros zero = refl
 all_zeros (suc n) = all_zeros n
 
-shorter : (ds : List ℕ) → length (trim_front ds) ≤ length ds
-shorter [] = omega arith
-shorter (d ∷ ds) = ⊎_elim
-    (λ (e : (d == 48) ≡ true). let x = ap length (ap (λ b. if b then trim_front ds else d ∷ ds) e) in let y = shorter ds in omega arith)
-    (λ (e : (d == 48) ≡ false). let x = ap length (ap (λ b. if b then trim_front ds else d ∷ ds) e) in omega arith)
-    (cases_Bool (d == 48))
-
-pub no_zero : (d : ℕ) (ds : List ℕ) → trim_front (d ∷ ds) ≡ d ∷ ds → (d == 48) ≡ false
-no_zero d ds h = ⊎_elim
-    (λ (e : (d == 48) ≡ true).
-    let x = ap length (sym (ap (λ b. if b then trim_front ds else d ∷ ds) e) ∙ h) in
-    let y = shorter ds in
-    absurd (omega arith))
-    (λ (e : (d == 48) ≡ false). e)
-    (cases_Bool (d == 48))
-
 pub digits_take : (d : ℕ) (ds : List ℕ) (n : ℕ) → AllDigits 10 (d ∷ ds) → trim_front (d ∷ ds) ≡ d ∷ ds → takes_point ((d ∷ ds) ++ zeros n []) ≡ true
 digits_take d ds n h t =
     ap (λ b. b && not (is_legacy_octal ((d ∷ ds) ++ zeros n []))) (all_both (d ∷ ds) (zeros n []) (all_digits (d ∷ ds) h) (all_zeros n))
-    ∙ ap (λ b. not (b && (not (none_left (ds ++ zeros n [])) && list_all (λ c. is_digit c 8) (ds ++ zeros n [])))) (no_zero d ds t)
+    ∙ ap (λ b. not (b && (not (none_left (ds ++ zeros n [])) && list_all (λ c. is_digit c 8) (ds ++ zeros n [])))) (first_not_zero d ds t)
 
 -- ---- minified
 
@@ -144,19 +126,13 @@ some_takes (InRadix radix (d ∷ ds)) power c e r b s =
 -- ---- whole digits
 
 whole_digits_take : (ds : List ℕ) (n : ℕ) (t : List ℕ) → AllDigits 10 ds → trim_front ds ≡ ds → whole_digits ds n ≡ Some t → takes_point t ≡ true
-whole_digits_take [] n t h f e = ap takes_point (sym (some_list (48 ∷ []) t e))
-  where
-    some_list : (x y : List ℕ) → Some x ≡ Some y → x ≡ y
-    some_list x y e = cc
+whole_digits_take [] n t h f e = ap takes_point (sym (same_Some (48 ∷ []) t e))
 whole_digits_take (d ∷ ds) n t h f e = ⊎_elim
     (λ (b : nat_lt n 20 ≡ true).
-    ap takes_point (sym (some_list ((d ∷ ds) ++ zeros n []) t (sym (ap (λ x. if x then Some ((d ∷ ds) ++ zeros n []) else None) b) ∙ e))) ∙ digits_take d ds n h f)
+    ap takes_point (sym (same_Some ((d ∷ ds) ++ zeros n []) t (sym (ap (λ x. if x then Some ((d ∷ ds) ++ zeros n []) else None) b) ∙ e))) ∙ digits_take d ds n h f)
     (λ (b : nat_lt n 20 ≡ false). none_some t (sym (ap (λ x. if x then Some ((d ∷ ds) ++ zeros n []) else None) b) ∙ e))
     (cases_Bool (nat_lt n 20))
   where
-    some_list : (x y : List ℕ) → Some x ≡ Some y → x ≡ y
-    some_list x y e = cc
-
     none_some : (x : List ℕ) → None ≡ Some x → takes_point t ≡ true
     none_some x e = cc
 

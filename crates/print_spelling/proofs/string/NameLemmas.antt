@@ -4,14 +4,14 @@ use Rattle.std.specs.Prelude.{if◌then◌else◌, nat_lt, ◌||◌, ◌==◌}
 use Rattle.std.specs.Char.{IsScalar, digit_char, is_ascii_alphanumeric}
 use Rattle.std.specs.Char.Escape.{encode_utf16}
 use Rattle.std.specs.List.{flat_map, list_any}
-use Rattle.std.proofs.lemmas.Bool.{cases_lt, lt-ltb, le-ltb, ltb-true, ltb-false, false≢true, and_parts}
+use Rattle.std.proofs.lemmas.Bool.{cases_lt, lt-ltb, le-ltb, ltb-true, ltb-false, false≢true, and_parts, cond_both}
 use Rattle.std.proofs.lemmas.Bool.Decides.{nat_tests}
 use Rattle.unicode_ident.proofs.IdentLemmas.{is_xid_continue-ascii}
 use Rattle.lex_pieces.specs.Characters.{is_name_part, is_hex_digit}
 use Rattle.lex_pieces.specs.Escapes as e
 use Rattle.lex_pieces.specs.Names.{IsName, IsNameChar, Spell, is_name_char}
 use Rattle.lex_pieces.specs.Runs.{Each}
-use Rattle.lex_pieces.proofs.NameLemmas.{starts_continue}
+use Rattle.lex_pieces.proofs.NameLemmas.{part_of}
 use Rattle.lex_literal.specs.Strings.{is_plain, SpellsString}
 use Rattle.print_spelling.specs.declared.form.Form.{Form}
 use Rattle.print_spelling.specs.declared.form.Form.TheVariants.{Bare}
@@ -99,10 +99,6 @@ record Writing (c : ℕ) (ds : List ℕ) : Type 0 where
   hex : Each is_hex_digit ds
   value : c ≡ e.value_after 0 ds
 
-by_list : (b : Bool) (x y : List ℕ) (P : List ℕ → Type 0) → (b ≡ true → P x) → (b ≡ false → P y) → P (if b then x else y)
-by_list true x y P f g = f refl
-by_list false x y P f g = g refl
-
 five_writing : (c : ℕ) → c < 0x10_0000 → Writing c (upper 65536 c ∷ upper 4096 c ∷ upper 256 c ∷ upper 16 c ∷ upper 1 c ∷ [])
 five_writing c h =
     let v = up_is 65536 c in let w = up_is 4096 c in let x = up_is 256 c in let y = up_is 16 c in let z = up_is 1 c in
@@ -115,11 +111,11 @@ six_writing c h =
 
 braced_writing : (c : ℕ) → 65536 ≤ c → c < 0x110000 → Writing c (braced_digits c)
 braced_writing c l h =
-    by_list (nat_lt c 0x1000) _ _ (Writing c)
+    cond_both (nat_lt c 0x1000) _ _ (Writing c)
     (λ t. absurd (let x = ltb-true c 0x1000 t in omega arith))
-    (λ t. by_list (nat_lt c 0x1_0000) _ _ (Writing c)
+    (λ t. cond_both (nat_lt c 0x1_0000) _ _ (Writing c)
     (λ u. absurd (let x = ltb-true c 0x1_0000 u in omega arith))
-    (λ u. by_list (nat_lt c 0x10_0000) _ _ (Writing c)
+    (λ u. cond_both (nat_lt c 0x10_0000) _ _ (Writing c)
     (λ v. five_writing c (ltb-true c 0x10_0000 v))
     (λ v. six_writing c h)))
 
@@ -133,19 +129,15 @@ braced_is c m l h =
 record Named (first : Bool) (c : ℕ) (m : List ℕ) (f : Form) : Type 0 where
   stands : IsNameChar first (written f c m) c m
 
-by_form : (b : Bool) (f g : Form) (P : Form → Type 0) → (b ≡ true → P f) → (b ≡ false → P g) → P (if b then f else g)
-by_form true f g P x y = x refl
-by_form false f g P x y = y refl
-
 name_char : (style : Style) (first : Bool) (c : ℕ) (m : List ℕ) → IsScalar c → is_name_char first c ≡ true → Named first c m (name_form style c)
 name_char style first c m s n =
     let code = scalar_code c s in
-    by_form (nat_lt c 0x7F) _ _ (Named first c m)
+    cond_both (nat_lt c 0x7F) _ _ (Named first c m)
     (λ t. record { stands = (n, inl refl) })
-    (λ t. by_form style.ascii_only _ _ (Named first c m)
-    (λ u. by_form (nat_lt c 0x100) _ _ (Named first c m)
+    (λ t. cond_both style.ascii_only _ _ (Named first c m)
+    (λ u. cond_both (nat_lt c 0x100) _ _ (Named first c m)
     (λ v. record { stands = (n, inr (s, four_lower_is c m (let x = ltb-true c 0x100 v in omega arith))) })
-    (λ v. by_form (nat_lt c 0x1_0000) _ _ (Named first c m)
+    (λ v. cond_both (nat_lt c 0x1_0000) _ _ (Named first c m)
     (λ w. record { stands = (n, inr (s, four_is c m (ltb-true c 0x1_0000 w))) })
     (λ w. record { stands = (n, inr (s, braced_is c m (ltb-false c 0x1_0000 w) code)) })))
     (λ u. record { stands = (n, inl refl) }))
@@ -160,10 +152,6 @@ name_is_read style cs rest some h ends = (some, chars_named style true cs rest h
 
 -- ---- a key in quotes
 
-part_of : (first : Bool) (c : ℕ) → is_name_char first c ≡ true → is_name_part c ≡ true
-part_of true c h = starts_continue c h
-part_of false c h = h
-
 low_plain : (c : ℕ) → c < 128 → is_name_part c ≡ true → is_plain 34 c ≡ true
 low_plain c l h =
     let g : (is_ascii_alphanumeric c || (c == 95)) || (c == 36 || (c == 95 || (c == 0x200C || c == 0x200D))) ≡ true =
@@ -177,14 +165,14 @@ record Keyed (c : ℕ) (m : List ℕ) (f : Form) : Type 0 where
 key_char : (style : Style) (first : Bool) (c : ℕ) (m : List ℕ) → style.ascii_only ≡ true → IsScalar c → is_name_char first c ≡ true → Keyed c m (key_form style c)
 key_char style first c m a s n =
     let code = scalar_code c s in
-    by_form (is_latin c) _ _ (Keyed c m)
+    cond_both (is_latin c) _ _ (Keyed c m)
     (λ t. record { suits = grind (arith, nat_tests); bare = λ x. cc })
-    (λ t. by_form (nat_lt c 0x7F) _ _ (Keyed c m)
+    (λ t. cond_both (nat_lt c 0x7F) _ _ (Keyed c m)
     (λ u. record { suits = tt; bare = λ x. low_plain c (let y = ltb-true c 0x7F u in omega arith) (part_of first c n) })
-    (λ u. by_form style.ascii_only _ _ (Keyed c m)
-    (λ v. by_form (nat_lt c 0x100) _ _ (Keyed c m)
+    (λ u. cond_both style.ascii_only _ _ (Keyed c m)
+    (λ v. cond_both (nat_lt c 0x100) _ _ (Keyed c m)
     (λ w. record { suits = (let y = ltb-true c 0x100 w in omega arith); bare = λ x. cc })
-    (λ w. by_form (nat_lt c 0x1_0000) _ _ (Keyed c m)
+    (λ w. cond_both (nat_lt c 0x1_0000) _ _ (Keyed c m)
     (λ y. record { suits = ltb-true c 0x1_0000 y; bare = λ x. cc })
     (λ y. record { suits = code; bare = λ x. cc })))
     (λ v. absurd (false≢true (sym v ∙ a)))))

@@ -5,6 +5,7 @@ use Rattle.std.specs.Char.{IsScalar}
 use Rattle.std.specs.List.{prefix_len}
 use Rattle.std.proofs.lemmas.Bool.Decides.{nat_tests}
 use Rattle.std.proofs.lemmas.Str.{encodes-append}
+use Rattle.std.proofs.lemmas.Bool.{cond-true, cond-false}
 use Rattle.lex_pieces.specs.Runs.{Each, run, after}
 use Rattle.lex_literal.proofs.RunLemmas.{Flat, Cut, cut_run, run_each, run_after}
 use Rattle.print_spelling.specs.declared.form.Form.{Form}
@@ -23,18 +24,12 @@ flat = record { same = λ b h. plain_high b h ∙ sym (plain_high 128 (omega ari
 pub plain_cut : (text bytes : List ℕ) (n : ℕ) → IsUtf8 text → bytes ≡ text → n ≡ prefix_len is_plain_byte bytes → Cut is_plain_byte text n
 plain_cut text bytes n u same e = subst (Cut is_plain_byte text) (sym (e ∙ ap (prefix_len is_plain_byte) same)) (cut_run is_plain_byte flat text u)
 
-if_true : (b : Bool) (x y : Form) → b ≡ true → (if b then x else y) ≡ x
-if_true b x y e = ap (λ t. if t then x else y) e
-
-if_false : (b : Bool) (x y : Form) → b ≡ false → (if b then x else y) ≡ y
-if_false b x y e = ap (λ t. if t then x else y) e
-
 no_latin : (c : ℕ) → is_plain_byte c ≡ true → is_latin c ≡ false
 no_latin c h = grind (arith, nat_tests)
 
 bare_in : (style : Style) (quoted : Bool) (c : ℕ) → is_plain_byte c ≡ true → form_in style quoted c ≡ Bare
-bare_in style true c h = if_false (is_latin c) _ _ (no_latin c h) ∙ if_true (nat_lt c 0x7F) _ _ h
-bare_in style false c h = if_true (nat_lt c 0x7F) _ _ h
+bare_in style true c h = cond-false (is_latin c) _ _ (no_latin c h) ∙ cond-true (nat_lt c 0x7F) _ _ h
+bare_in style false c h = cond-true (nat_lt c 0x7F) _ _ h
 
 run_chars : (style : Style) (quoted : Bool) (own cs m : List ℕ) → Each is_plain_byte own
     → name_chars style quoted (own ++ cs) m ≡ own ++ name_chars style quoted cs m

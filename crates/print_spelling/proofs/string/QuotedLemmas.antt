@@ -3,7 +3,7 @@ use Rattle.std.proofs.Common.{◌≡◌, ℕ, ◌-◌, ◌<◌, ◌≤◌, ◌�
 use Rattle.std.specs.Prelude.{if◌then◌else◌, nat_lt, ◌&&◌, ◌||◌, ◌==◌, filter, encode_utf8_all}
 use Rattle.std.specs.Char.{IsScalar}
 use Rattle.std.specs.List.{list_any}
-use Rattle.std.proofs.lemmas.Bool.{cases_Bool, lt-ltb, le-ltb, ltb-true, ltb-false, eqb-true, and_parts, and_right, and_cases, ne_eqb, false≢true}
+use Rattle.std.proofs.lemmas.Bool.{cases_Bool, lt-ltb, le-ltb, ltb-true, ltb-false, eqb-true, and_parts, and_right, and_cases, ne_eqb, false≢true, cond_both, cond-true, cond-false}
 use Rattle.std.proofs.lemmas.Bool.Decides.{nat_tests}
 use Rattle.std.proofs.lemmas.List.Elements.{filter-append}
 use Rattle.std.proofs.lemmas.Str.{encode_ascii, encodes-append}
@@ -22,12 +22,6 @@ use Rattle.print_spelling.specs.declared.string.quoted.Behind.TheVariants.{Other
 use Rattle.print_spelling.specs.String.CodePoints.{code_points, onto, is_high, is_low, of_pair}
 use Rattle.print_spelling.specs.String.QuotedTexts.{is_markup, is_plain_unit}
 use Rattle.print_spelling.specs.String.Strings.{behind, is_guarded, opens_comment, closes_script, is_less, is_dash, is_dashes, letter_of, is_never_bare, lone_form, form_of, chars_text, count, quote_of}
-
-if_true : {A : Type 0} (b : Bool) (x y : A) → b ≡ true → (if b then x else y) ≡ x
-if_true b x y e = ap (λ t. if t then x else y) e
-
-if_false : {A : Type 0} (b : Bool) (x y : A) → b ≡ false → (if b then x else y) ≡ y
-if_false b x y e = ap (λ t. if t then x else y) e
 
 -- ---- one character
 
@@ -49,10 +43,6 @@ char_bytes style quote b c cs m bytes f e same =
     ∙ encodes-append (written (form_of style quote b c cs) c []) (chars_text style quote (behind style b c) cs m)
     ∙ ap (λ (l : List ℕ). l ++ encode_utf8_all (chars_text style quote (behind style b c) cs m)) (ap (λ g. encode_utf8_all (written g c [])) (sym e) ∙ sym same)
 
-by_test : (b : Bool) (f g : Form) (P : Form → Type 0) → (b ≡ true → P f) → (b ≡ false → P g) → P (if b then f else g)
-by_test true f g P x y = x refl
-by_test false f g P x y = y refl
-
 pub scalar_code : (c : ℕ) → IsScalar c → c < 0x110000
 scalar_code c h = grind (arith, nat_tests)
 
@@ -72,40 +62,40 @@ module _ (style : Style) (quote c : ℕ) (code : c < 0x110000) where
 
   lone_writes : CanWrite c (lone_form style c)
   lone_writes =
-      by_test (nat_lt 0 (letter_of c)) _ _ (CanWrite c)
+      cond_both (nat_lt 0 (letter_of c)) _ _ (CanWrite c)
       (λ e. record { writes = letter_low })
-      (λ e. by_test (c == 9) _ _ (CanWrite c)
+      (λ e. cond_both (c == 9) _ _ (CanWrite c)
       (λ f. record { writes = low_scalar c (let x = eqb-true c 9 f in omega arith) })
-      (λ f. by_test (nat_lt c 0x20) _ _ (CanWrite c)
+      (λ f. cond_both (nat_lt c 0x20) _ _ (CanWrite c)
       (λ g. record { writes = code })
-      (λ g. by_test (nat_lt c 0x7F) _ _ (CanWrite c)
+      (λ g. cond_both (nat_lt c 0x7F) _ _ (CanWrite c)
       (λ h. record { writes = low_scalar c (let x = ltb-true c 0x7F h in omega arith) })
-      (λ h. by_test (nat_lt c 0x100) _ _ (CanWrite c)
-      (λ i. by_test (style.ascii_only || is_up_to_es5 style) _ _ (CanWrite c)
+      (λ h. cond_both (nat_lt c 0x100) _ _ (CanWrite c)
+      (λ i. cond_both (style.ascii_only || is_up_to_es5 style) _ _ (CanWrite c)
       (λ j. record { writes = code })
       (λ j. record { writes = low_scalar c (ltb-true c 0x100 i) }))
-      (λ i. by_test (is_never_bare c) _ _ (CanWrite c)
+      (λ i. cond_both (is_never_bare c) _ _ (CanWrite c)
       (λ j. record { writes = code })
-      (λ j. by_test (nat_lt c 0x1_0000) _ _ (CanWrite c)
-      (λ k. by_test style.ascii_only _ _ (CanWrite c)
+      (λ j. cond_both (nat_lt c 0x1_0000) _ _ (CanWrite c)
+      (λ k. cond_both style.ascii_only _ _ (CanWrite c)
       (λ l. record { writes = code })
       (λ l. record { writes = wide_scalar c j code }))
-      (λ k. by_test (is_up_to_es5 style) _ _ (CanWrite c)
+      (λ k. cond_both (is_up_to_es5 style) _ _ (CanWrite c)
       (λ l. record { writes = (ltb-false c 0x1_0000 k, code) })
-      (λ l. by_test style.ascii_only _ _ (CanWrite c)
+      (λ l. cond_both style.ascii_only _ _ (CanWrite c)
       (λ m. record { writes = code })
       (λ m. record { writes = wide_scalar c j code })))))))))
 
   form_writes : (b : Behind) (cs : List ℕ) → quote < 128 → CanWrite c (form_of style quote b c cs)
   form_writes b cs q =
-      by_test (is_guarded style b c cs) _ _ (CanWrite c)
-      (λ e. by_test (c == 47) _ _ (CanWrite c)
+      cond_both (is_guarded style b c cs) _ _ (CanWrite c)
+      (λ e. cond_both (c == 47) _ _ (CanWrite c)
       (λ f. record { writes = omega arith })
       (λ f. record { writes = code }))
-      (λ e. by_test (c == quote) _ _ (CanWrite c)
+      (λ e. cond_both (c == quote) _ _ (CanWrite c)
       (λ f. record { writes = q })
-      (λ f. by_test (c == 0) _ _ (CanWrite c)
-      (λ g. by_test (is_below_es5 style || begins is_decimal cs) _ _ (CanWrite c)
+      (λ f. cond_both (c == 0) _ _ (CanWrite c)
+      (λ g. cond_both (is_below_es5 style || begins is_decimal cs) _ _ (CanWrite c)
       (λ h. record { writes = code })
       (λ h. record { writes = code }))
       (λ g. lone_writes)))
@@ -204,10 +194,10 @@ push_bytes style quote b c cs points m old new made f d e g h i j =
 -- ---- the quote
 
 pub quote_more : (a b : ℕ) (cs : List ℕ) → a ≡ count 39 cs → b ≡ count 34 cs → a < b → 39 ≡ quote_of cs
-quote_more a b cs e f h = sym (if_true (nat_lt (count 39 cs) (count 34 cs)) 39 34 (lt-ltb (count 39 cs) (count 34 cs) (omega arith)))
+quote_more a b cs e f h = sym (cond-true (nat_lt (count 39 cs) (count 34 cs)) 39 34 (lt-ltb (count 39 cs) (count 34 cs) (omega arith)))
 
 pub quote_less : (a b : ℕ) (cs : List ℕ) → a ≡ count 39 cs → b ≡ count 34 cs → b ≤ a → 34 ≡ quote_of cs
-quote_less a b cs e f h = sym (if_false (nat_lt (count 39 cs) (count 34 cs)) 39 34 (le-ltb (count 39 cs) (count 34 cs) (omega arith)))
+quote_less a b cs e f h = sym (cond-false (nat_lt (count 39 cs) (count 34 cs)) 39 34 (le-ltb (count 39 cs) (count 34 cs) (omega arith)))
 
 counts_none : (x : ℕ) (us : List ℕ) → list_any (λ c. c == x) us ≡ false → length (filter (λ c. c == x) us) ≡ 0
 counts_none x [] h = refl
@@ -263,11 +253,11 @@ module _ (style : Style) (c : ℕ) (p : is_plain_unit style c ≡ true) where
       let m = no_markup e in
       let less : (c == 60) ≡ false = grind (arith, nat_tests) in
       let dash : (c == 45) ≡ false = grind (arith, nat_tests) in
-      if_true style.inline_script (if c == 60 then Less else (if c == 45 then (if is_dash b then Dashes else Dash) else Other)) Other e
-      ∙ if_false (c == 60) Less (if c == 45 then (if is_dash b then Dashes else Dash) else Other) less
-      ∙ if_false (c == 45) (if is_dash b then Dashes else Dash) Other dash)
+      cond-true style.inline_script (if c == 60 then Less else (if c == 45 then (if is_dash b then Dashes else Dash) else Other)) Other e
+      ∙ cond-false (c == 60) Less (if c == 45 then (if is_dash b then Dashes else Dash) else Other) less
+      ∙ cond-false (c == 45) (if is_dash b then Dashes else Dash) Other dash)
       (λ (e : style.inline_script ≡ false).
-      if_false style.inline_script (if c == 60 then Less else (if c == 45 then (if is_dash b then Dashes else Dash) else Other)) Other e)
+      cond-false style.inline_script (if c == 60 then Less else (if c == 45 then (if is_dash b then Dashes else Dash) else Other)) Other e)
       (cases_Bool style.inline_script)
 
   plain_lone : lone_form style c ≡ Bare
@@ -276,14 +266,14 @@ module _ (style : Style) (c : ℕ) (p : is_plain_unit style c ≡ true) where
       let no_tab : (c == 9) ≡ false = grind (arith, nat_tests) in
       let printed : nat_lt c 0x20 ≡ false = grind (arith, nat_tests) in
       let low : nat_lt c 0x7F ≡ true = grind (arith, nat_tests) in
-      if_false (nat_lt 0 (letter_of c)) (Letter (letter_of c)) _ no_letter ∙ if_false (c == 9) Bare _ no_tab ∙ if_false (nat_lt c 0x20) Hex _ printed
-      ∙ if_true (nat_lt c 0x7F) Bare _ low
+      cond-false (nat_lt 0 (letter_of c)) (Letter (letter_of c)) _ no_letter ∙ cond-false (c == 9) Bare _ no_tab ∙ cond-false (nat_lt c 0x20) Hex _ printed
+      ∙ cond-true (nat_lt c 0x7F) Bare _ low
 
   plain_form : (quote : ℕ) (b : Behind) (cs : List ℕ) → is_quote quote ≡ true → form_of style quote b c cs ≡ Bare
   plain_form quote b cs q =
       let other : (c == quote) ≡ false = let n = no_quotes in grind (arith, nat_tests) in
       let some : (c == 0) ≡ false = grind (arith, nat_tests) in
-      if_false (is_guarded style b c cs) _ _ (unguarded b cs) ∙ if_false (c == quote) (Letter quote) _ other ∙ if_false (c == 0) _ _ some ∙ plain_lone
+      cond-false (is_guarded style b c cs) _ _ (unguarded b cs) ∙ cond-false (c == quote) (Letter quote) _ other ∙ cond-false (c == 0) _ _ some ∙ plain_lone
 
 plain_bytes : (style : Style) (quote : ℕ) (b : Behind) (u : ℕ) (units us m old new : List ℕ) → is_quote quote ≡ true → is_plain_unit style u ≡ true
     → units ≡ u ∷ us → new ≡ old ++ u ∷ []

@@ -1,9 +1,9 @@
 -- Quoted units are read as these units.
-use Rattle.std.proofs.Common.{◌≡◌, ℕ, ◌<◌, ◌≤◌, ⊎_elim, Bool, true, false, List, [], ◌∷◌, ◌++◌, append_assoc, refl, sym, ap, subst, ◌∙◌, arith}
+use Rattle.std.proofs.Common.{◌≡◌, ℕ, ◌<◌, ◌≤◌, ⊎_elim, true, false, List, [], ◌∷◌, ◌++◌, append_assoc, refl, sym, ap, subst, ◌∙◌, arith}
 use Rattle.std.specs.Prelude.{if◌then◌else◌, nat_lt, ◌||◌, ◌==◌}
 use Rattle.std.specs.Char.Escape.{encode_utf16}
 use Rattle.std.specs.List.{flat_map, list_any}
-use Rattle.std.proofs.lemmas.Bool.{cases_Bool, ltb-true, ltb-false, eqb-true, false≢true}
+use Rattle.std.proofs.lemmas.Bool.{cases_Bool, ltb-true, ltb-false, eqb-true, false≢true, cond_both, or_parts}
 use Rattle.std.proofs.lemmas.Bool.Decides.{nat_tests}
 use Rattle.lex_literal.specs.Escapes.{begins, is_decimal, is_special, single}
 use Rattle.lex_literal.specs.Strings.{Piece, Pieces, piece_units, has_legacy_escape, is_plain, is_quote}
@@ -55,10 +55,6 @@ record Good (quote c : ℕ) (m : List ℕ) (f : Form) : Type 0 where
   suits : Suits f c m
   bare : f ≡ Bare → is_plain quote c ≡ true
 
-by_test : (b : Bool) (f g : Form) (P : Form → Type 0) → (b ≡ true → P f) → (b ≡ false → P g) → P (if b then f else g)
-by_test true f g P x y = x refl
-by_test false f g P x y = y refl
-
 module _ (style : Style) (quote c : ℕ) (m : List ℕ) (is_code : c < 0x110000) where
   bare_good : is_plain quote c ≡ true → Good quote c m Bare
   bare_good e = record { suits = tt; bare = λ _. e }
@@ -66,15 +62,15 @@ module _ (style : Style) (quote c : ℕ) (m : List ℕ) (is_code : c < 0x110000)
   wide_good : 0x100 ≤ c → quote < 128 → Good quote c m (wide_form style c)
   wide_good l q =
       let plain : is_plain quote c ≡ true = grind (arith, nat_tests) in
-      by_test (is_never_bare c) _ _ (Good quote c m)
+      cond_both (is_never_bare c) _ _ (Good quote c m)
       (λ e. record { suits = grind (arith, nat_tests); bare = λ x. cc })
-      (λ e. by_test (nat_lt c 0x1_0000) _ _ (Good quote c m)
-      (λ f. by_test style.ascii_only _ _ (Good quote c m)
+      (λ e. cond_both (nat_lt c 0x1_0000) _ _ (Good quote c m)
+      (λ f. cond_both style.ascii_only _ _ (Good quote c m)
       (λ g. record { suits = ltb-true c 0x1_0000 f; bare = λ x. cc })
       (λ g. bare_good plain))
-      (λ f. by_test (is_up_to_es5 style) _ _ (Good quote c m)
+      (λ f. cond_both (is_up_to_es5 style) _ _ (Good quote c m)
       (λ g. record { suits = (ltb-false c 0x1_0000 f, is_code); bare = λ x. cc })
-      (λ g. by_test style.ascii_only _ _ (Good quote c m)
+      (λ g. cond_both style.ascii_only _ _ (Good quote c m)
       (λ h. record { suits = is_code; bare = λ x. cc })
       (λ h. bare_good plain))))
 
@@ -87,16 +83,16 @@ module _ (style : Style) (quote c : ℕ) (m : List ℕ) (is_code : c < 0x110000)
   lone_good : is_quote quote ≡ true → (c == quote) ≡ false → Good quote c m (lone_form style c)
   lone_good q n =
       let low : quote < 128 = grind (arith, nat_tests) in
-      by_test (nat_lt 0 (letter_of c)) _ _ (Good quote c m)
+      cond_both (nat_lt 0 (letter_of c)) _ _ (Good quote c m)
       (λ e. record { suits = (letter_special e, letter_single e); bare = λ x. cc })
-      (λ e. by_test (c == 9) _ _ (Good quote c m)
+      (λ e. cond_both (c == 9) _ _ (Good quote c m)
       (λ f. bare_good (grind (arith, nat_tests)))
-      (λ f. by_test (nat_lt c 0x20) _ _ (Good quote c m)
+      (λ f. cond_both (nat_lt c 0x20) _ _ (Good quote c m)
       (λ g. record { suits = grind (arith, nat_tests); bare = λ x. cc })
-      (λ g. by_test (nat_lt c 0x7F) _ _ (Good quote c m)
+      (λ g. cond_both (nat_lt c 0x7F) _ _ (Good quote c m)
       (λ h. bare_good (grind (arith, nat_tests)))
-      (λ h. by_test (nat_lt c 0x100) _ _ (Good quote c m)
-      (λ i. by_test (style.ascii_only || is_up_to_es5 style) _ _ (Good quote c m)
+      (λ h. cond_both (nat_lt c 0x100) _ _ (Good quote c m)
+      (λ i. cond_both (style.ascii_only || is_up_to_es5 style) _ _ (Good quote c m)
       (λ j. record { suits = ltb-true c 0x100 i; bare = λ x. cc })
       (λ j. bare_good (grind (arith, nat_tests))))
       (λ i. wide_good (ltb-false c 0x100 i) low)))))
@@ -104,16 +100,16 @@ module _ (style : Style) (quote c : ℕ) (m : List ℕ) (is_code : c < 0x110000)
   form_good : (b : Behind) (cs : List ℕ) → is_quote quote ≡ true → (begins is_decimal cs ≡ false → begins is_decimal m ≡ false)
       → Good quote c m (form_of style quote b c cs)
   form_good b cs q next =
-      by_test (is_guarded style b c cs) _ _ (Good quote c m)
-      (λ e. by_test (c == 47) _ _ (Good quote c m)
+      cond_both (is_guarded style b c cs) _ _ (Good quote c m)
+      (λ e. cond_both (c == 47) _ _ (Good quote c m)
       (λ f. record { suits = (refl, sym (eqb-true c 47 f)); bare = λ x. cc })
       (λ f. record { suits = guarded_low e; bare = λ x. cc }))
-      (λ e. by_test (c == quote) _ _ (Good quote c m)
+      (λ e. cond_both (c == quote) _ _ (Good quote c m)
       (λ f. record { suits = (quote_special q, quote_single q ∙ sym (eqb-true c quote f)); bare = λ x. cc })
-      (λ f. by_test (c == 0) _ _ (Good quote c m)
-      (λ g. by_test (is_below_es5 style || begins is_decimal cs) _ _ (Good quote c m)
+      (λ f. cond_both (c == 0) _ _ (Good quote c m)
+      (λ g. cond_both (is_below_es5 style || begins is_decimal cs) _ _ (Good quote c m)
       (λ h. record { suits = grind (arith, nat_tests); bare = λ x. cc })
-      (λ h. record { suits = (eqb-true c 0 g, next (second_false (is_below_es5 style) (begins is_decimal cs) h)); bare = λ x. cc }))
+      (λ h. record { suits = (eqb-true c 0 g, next (or_parts (is_below_es5 style) (begins is_decimal cs) h).1); bare = λ x. cc }))
       (λ g. lone_good q f)))
     where
       guarded_low : is_guarded style b c cs ≡ true → c < 256
@@ -124,10 +120,6 @@ module _ (style : Style) (quote c : ℕ) (m : List ℕ) (is_code : c < 0x110000)
 
       quote_single : is_quote quote ≡ true → single quote ≡ quote
       quote_single e = grind (arith, nat_tests)
-
-      second_false : (x y : Bool) → (x || y) ≡ false → y ≡ false
-      second_false true y e = absurd (false≢true (sym e))
-      second_false false y e = e
 
 -- ---- characters
 

@@ -1,7 +1,7 @@
 -- Line ends of raw texts as LF.
 use Rattle.std.proofs.Common.{◌≡◌, ℕ, ⊎_elim, Bool, true, false, List, [], ◌∷◌, ◌++◌, refl, sym, ap, subst, ◌∙◌}
 use Rattle.std.specs.Prelude.{if◌then◌else◌, ◌==◌, not}
-use Rattle.std.proofs.lemmas.Bool.{cases_Bool, eqb-true, false≢true}
+use Rattle.std.proofs.lemmas.Bool.{cases_Bool, eqb-true, false≢true, not-true}
 use Rattle.lex_pieces.specs.Runs.{Each}
 use Rattle.lex_literal.specs.Escapes.{begins, is_line_feed}
 use Rattle.lex_literal.specs.Templates.{line_feeds}
@@ -9,12 +9,8 @@ use Rattle.lex_literal.specs.Templates.{line_feeds}
 abbrev pub is_other : ℕ → Bool
 is_other c = not (c == 13)
 
-not_true : (b : Bool) → not b ≡ true → b ≡ false
-not_true true e = sym e
-not_true false e = refl
-
 pub fed_other : (c : ℕ) (cs : List ℕ) → is_other c ≡ true → line_feeds (c ∷ cs) ≡ c ∷ line_feeds cs
-fed_other c cs e = ap (λ b. if b then (if begins is_line_feed cs then line_feeds cs else 10 ∷ line_feeds cs) else c ∷ line_feeds cs) (not_true (c == 13) e)
+fed_other c cs e = ap (λ b. if b then (if begins is_line_feed cs then line_feeds cs else 10 ∷ line_feeds cs) else c ∷ line_feeds cs) (not-true (c == 13) e)
 
 pub fed_run : (xs cs : List ℕ) → Each is_other xs → line_feeds (xs ++ cs) ≡ xs ++ line_feeds cs
 fed_run [] cs h = refl

@@ -1,11 +1,11 @@
 -- What each written part of a template is read as.
 use Rattle.std.proofs.Common.{◌≡◌, ℕ, ◌<◌, inl, inr, ⊎_elim, Bool, true, false, List, [], ◌∷◌, ◌++◌, append-nil, append_assoc, refl, sym, ap, subst, ◌∙◌, arith}
-use Rattle.std.specs.Prelude.{if◌then◌else◌, nat_lt, ◌&&◌, ◌||◌, ◌==◌}
+use Rattle.std.specs.Prelude.{nat_lt, ◌&&◌, ◌||◌, ◌==◌}
 use Rattle.std.specs.Char.{digit_value}
 use Rattle.std.specs.Char.Escape.{encode_utf16}
 use Rattle.std.specs.List.{flat_map, list_any}
 use Rattle.std.specs.Str.Parse.{digits_value}
-use Rattle.std.proofs.lemmas.Bool.{cases_Bool, ltb-true, eqb-true, false≢true, and_parts}
+use Rattle.std.proofs.lemmas.Bool.{cases_Bool, ltb-true, eqb-true, false≢true, and_parts, cond_both}
 use Rattle.std.proofs.lemmas.Bool.Decides.{nat_tests}
 use Rattle.lex_literal.specs.declared.escape.Escape.TheVariants.{Continuation, Code}
 use Rattle.lex_literal.specs.Escapes.{begins, is_decimal, is_hex, is_special, single, IsEscape}
@@ -87,10 +87,6 @@ pub record PartReads (style : Style) (p : Part) (units : List ℕ) : Type 0 wher
 record FormReads (c : ℕ) (m : List ℕ) (g : Form) : Type 0 where
   form : IsRead (written g c m) (encode_utf16 c) m
 
-by_test : (b : Bool) (x y : Form) (P : Form → Type 0) → (b ≡ true → P x) → (b ≡ false → P y) → P (if b then x else y)
-by_test true x y P f g = f refl
-by_test false x y P f g = g refl
-
 -- what a raw text has bare, or behind a backslash that is dropped
 abbrev pub may_stand : ℕ → Bool
 may_stand c = nat_lt c 0x110000 && is_bare c
@@ -114,25 +110,25 @@ module _ (style : Style) (c : ℕ) (m : List ℕ) (ok : may_stand c ≡ true) wh
   form_reads : (dollar digit : Bool) → (digit ≡ false → begins is_decimal m ≡ false) → (c ≡ 36 → begins is_brace m ≡ false)
       → FormReads c m (form_of style dollar digit c)
   form_reads dollar digit n d =
-      by_test (c == 0) _ _ (FormReads c m)
-      (λ a. by_test digit _ _ (FormReads c m)
+      cond_both (c == 0) _ _ (FormReads c m)
+      (λ a. cond_both digit _ _ (FormReads c m)
       (λ b. hexed (let z = eqb-true c 0 a in omega arith))
       (λ b. record { form = escape_read c (48 ∷ m) m (nul_escape c m (eqb-true c 0 a) (n b)) }))
-      (λ a. by_test (c == 8) _ _ (FormReads c m)
+      (λ a. cond_both (c == 8) _ _ (FormReads c m)
       (λ b. letter 98 refl (sym (eqb-true c 8 b)))
-      (λ b. by_test (c == 11) _ _ (FormReads c m)
+      (λ b. cond_both (c == 11) _ _ (FormReads c m)
       (λ e. letter 118 refl (sym (eqb-true c 11 e)))
-      (λ e. by_test (c == 12) _ _ (FormReads c m)
+      (λ e. cond_both (c == 12) _ _ (FormReads c m)
       (λ g. letter 102 refl (sym (eqb-true c 12 g)))
-      (λ g. by_test (c == 123 && dollar) _ _ (FormReads c m)
+      (λ g. cond_both (c == 123 && dollar) _ _ (FormReads c m)
       (λ h. letter 123 refl (sym (eqb-true c 123 (and_parts (c == 123) dollar h).0)))
-      (λ h. by_test (nat_lt c 0x7F) _ _ (FormReads c m)
+      (λ h. cond_both (nat_lt c 0x7F) _ _ (FormReads c m)
       (λ i. bare d)
-      (λ i. by_test (nat_lt c 0x100) _ _ (FormReads c m)
+      (λ i. cond_both (nat_lt c 0x100) _ _ (FormReads c m)
       (λ j. hexed (ltb-true c 0x100 j))
-      (λ j. by_test (is_separator c || c == 0xFEFF) _ _ (FormReads c m)
+      (λ j. cond_both (is_separator c || c == 0xFEFF) _ _ (FormReads c m)
       (λ k. record { form = escape_read c (four c m) m (four_escape c m (low k)) })
-      (λ k. by_test style.ascii_only _ _ (FormReads c m)
+      (λ k. cond_both style.ascii_only _ _ (FormReads c m)
       (λ l. record { form = escape_read c (117 ∷ 123 ∷ (braced_digits c ++ 125 ∷ m)) m (braced_escape c m is_code) })
       (λ l. bare d)))))))))
     where
@@ -163,9 +159,11 @@ hexed_reads style v h = record { reads = λ dollar digit m i j. escape_read v (1
 
 -- ---- the part of each escape
 
-by_part : (b : Bool) (x y : Part) (P : Part → Type 0) → (b ≡ true → P x) → (b ≡ false → P y) → P (if b then x else y)
-by_part true x y P f g = f refl
-by_part false x y P f g = g refl
+pub printed_stands : (n : ℕ) → is_kept_code n ≡ false → is_printed n ≡ true → may_stand n ≡ true
+printed_stands n k q = grind (arith, nat_tests)
+
+pub separator_special : (d : ℕ) → is_separator d ≡ true → is_special d ≡ true
+separator_special d e = grind (arith, nat_tests)
 
 module _ (style : Style) where
   two_low : (a b n : ℕ) → is_hex a ≡ true → is_hex b ≡ true → n ≡ digits_value 16 (a ∷ b ∷ []) → n < 256
@@ -174,14 +172,11 @@ module _ (style : Style) where
       let y = ltb-true (digit_value b) 16 i in
       omega arith
 
-  printed_stands : (n : ℕ) → is_kept_code n ≡ false → is_printed n ≡ true → may_stand n ≡ true
-  printed_stands n k q = grind (arith, nat_tests)
-
   pub hex_reads : (a b n : ℕ) → is_hex a ≡ true → is_hex b ≡ true → n ≡ digits_value 16 (a ∷ b ∷ []) → PartReads style (hex_part a b n) (encode_utf16 n)
   hex_reads a b n h i e =
-      by_part (is_kept_code n) _ _ (λ x. PartReads style x (encode_utf16 n))
+      cond_both (is_kept_code n) _ _ (λ x. PartReads style x (encode_utf16 n))
       (λ k. digits_reads style a b n h i e)
-      (λ k. by_part (is_printed n) _ _ (λ x. PartReads style x (encode_utf16 n))
+      (λ k. cond_both (is_printed n) _ _ (λ x. PartReads style x (encode_utf16 n))
       (λ q. code_reads style n (printed_stands n k q))
       (λ q. hexed_reads style n (two_low a b n h i e)))
 
@@ -194,25 +189,22 @@ module _ (style : Style) where
   plain_stands : (d : ℕ) → d < 0x110000 → is_special d ≡ false → stays d ≡ false → may_stand d ≡ true
   plain_stands d h s e = grind (arith, nat_tests)
 
-  separator_special : (d : ℕ) → is_separator d ≡ true → is_special d ≡ true
-  separator_special d e = grind (arith, nat_tests)
-
   pub single_reads : (d : ℕ) (cs : List ℕ) → d < 0x110000 → is_special d ≡ false → PartReads style (escaped d cs) (encode_utf16 (single d))
   single_reads d cs h s =
       let P : Part → Type 0 = λ x. PartReads style x (encode_utf16 (single d)) in
-      by_part (d == 120) _ _ P
+      cond_both (d == 120) _ _ P
       (λ e. absurd (not_x d s e))
-      (λ _. by_part (d == 110) _ _ P
+      (λ _. cond_both (d == 110) _ _ P
       (λ e. subst (λ x. PartReads style (p.Code 10) (encode_utf16 (single x))) (sym (eqb-true d 110 e)) (code_reads style 10 refl))
-      (λ n. by_part (d == 116) _ _ P
+      (λ n. cond_both (d == 116) _ _ P
       (λ e. subst (λ x. PartReads style (p.Code 9) (encode_utf16 (single x))) (sym (eqb-true d 116 e)) (code_reads style 9 refl))
-      (λ t. by_part (d == 48) _ _ P
+      (λ t. cond_both (d == 48) _ _ P
       (λ e. absurd (false≢true (sym s ∙ ap is_special (eqb-true d 48 e))))
-      (λ _. by_part (is_separator d) _ _ P
+      (λ _. cond_both (is_separator d) _ _ P
       (λ e. absurd (false≢true (sym s ∙ separator_special d e)))
-      (λ _. by_part (stays d) _ _ P
+      (λ _. cond_both (stays d) _ _ P
       (λ e. pair_reads style d (single d) s refl)
-      (λ e. by_part (d == 36 && begins is_brace cs) _ _ P
+      (λ e. cond_both (d == 36 && begins is_brace cs) _ _ P
       (λ _. pair_reads style d (single d) s refl)
       (λ _. subst (λ x. PartReads style (p.Code d) (encode_utf16 x)) (sym (plain_single d n t e)) (code_reads style d (plain_stands d h s e)))))))))
 

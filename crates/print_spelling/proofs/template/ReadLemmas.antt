@@ -1,14 +1,16 @@
 -- A piece of an untagged template is read back.
 use Rattle.std.proofs.Common.{◌≡◌, ℕ, zero, ◌⊎◌, inl, inr, ⊎_elim, Bool, true, false, List, [], ◌∷◌, ◌++◌, append-nil, append_assoc, refl, sym, ap, subst, ◌∙◌, arith}
-use Rattle.std.specs.Prelude.{if◌then◌else◌, nat_lt, ◌||◌, ◌==◌, Some, None}
+use Rattle.std.specs.Prelude.{if◌then◌else◌, nat_lt, ◌==◌, Some, None}
 use Rattle.std.specs.Char.Escape.{encode_utf16}
 use Rattle.std.specs.List.{flat_map, list_any}
 use Rattle.std.specs.Str.Parse.{digits_value}
-use Rattle.std.proofs.lemmas.Bool.{cases_Bool, ltb-true, eqb-true, false≢true}
+use Rattle.std.proofs.lemmas.Bool.{cases_Bool, ltb-true, eqb-true, false≢true, and_from}
 use Rattle.std.proofs.lemmas.Bool.Decides.{nat_tests}
 use Rattle.std.proofs.lemmas.List.{append_cancel_right}
+use Rattle.std.proofs.lemmas.Option.{same_Some}
 use Rattle.lex_pieces.specs.Characters.{is_line_terminator}
 use Rattle.lex_pieces.specs.Runs.{Each}
+use Rattle.lex_pieces.proofs.Passing.{each_append}
 use Rattle.lex_literal.specs.declared.escape.Escape.TheVariants.{Continuation, Code, Legacy}
 use Rattle.lex_literal.specs.declared.template.Ending.{Ending}
 use Rattle.lex_literal.specs.declared.template.Ending.TheVariants.{BackQuote, Substitution}
@@ -24,7 +26,7 @@ use Rattle.print_spelling.specs.declared.template.part.Part.TheVariants as p
 use Rattle.print_spelling.specs.Template.Laws.{is_code_point, TemplateIsRead}
 use Rattle.print_spelling.specs.Template.Templates.{hex_part, escaped, parts, form_of, part_text, digit_first, dollar_behind, parts_text, keeps_raw}
 use Rattle.print_spelling.proofs.template.LineLemmas.{is_other, fed_other, fed_run, fed_return, begins_front, begins_fed}
-use Rattle.print_spelling.proofs.template.SplitLemmas.{both, bare_parts, pair_parts, no_special_x, no_special_return, hex_other, hex_parts, is_self, self_text, each_other, hexes_self, each_append}
+use Rattle.print_spelling.proofs.template.SplitLemmas.{bare_parts, pair_parts, no_special_x, no_special_return, hex_other, hex_parts, is_self, self_text, each_other, hexes_self}
 use Rattle.print_spelling.proofs.template.TwiceLemmas.{IsSound, AreTwice, none_twice, part_twice, selves_twice, single_sound, hex_sound}
 use Rattle.print_spelling.proofs.template.PartLemmas.{IsRead, read_none, bare_read, escape_read, line_read, read_on, PartReads, code_reads, line_reads, nothing_reads, hex_reads, single_reads, no_digit, no_brace}
 
@@ -122,7 +124,7 @@ bare_spelled : (style : Style) (c : ℕ) (rest ws : List ℕ) → is_bare c ≡ 
     → Spelled style (c ∷ rest) (encode_utf16 c ++ ws)
 bare_spelled style c rest ws b k s =
     spelled_part style (p.Code c) (c ∷ rest) rest (encode_utf16 c) ws (bare_parts c rest (bare_no_backslash c b))
-    (code_reads style c (both (nat_lt c 0x110000) (is_bare c) k b)) (both (nat_lt c 0x110000) (is_bare c) k b) s
+    (code_reads style c (and_from (nat_lt c 0x110000) (is_bare c) k b)) (and_from (nat_lt c 0x110000) (is_bare c) k b) s
 
 bare_step : (style : Style) (text mid m vs : List ℕ) (c : ℕ) → t.Stands (t.Bare c) text mid → Reads style mid m vs → Reads style text m (encode_utf16 c ++ vs)
 bare_step style text mid m vs c h i =
@@ -286,10 +288,6 @@ module _ (style : Style) (text mid m vs : List ℕ) (n : ℕ) (i : Reads style m
 
 -- ---- all parts of a piece
 
-first_good : (x y : Bool) → (x || y) ≡ false → y ≡ false
-first_good true y e = absurd (false≢true (sym e))
-first_good false y e = e
-
 reads : (style : Style) (ps : List t.Part) (text m : List ℕ) → Parts ps text m → list_any is_bad ps ≡ false → Reads style text m (flat_map part_units ps)
 reads style [] text m h g = reads_none style text m h
 reads style (t.Bare c ∷ ps) text m h g = bare_step style text h.0 m (flat_map part_units ps) c h.1 (reads style ps h.0 m h.2 g)
@@ -332,9 +330,6 @@ record IsCooked (units : List ℕ) (ps : List t.Part) : Type 0 where
   good : list_any is_bad ps ≡ false
   value : units ≡ flat_map part_units ps
 
-some_same : (x y : List ℕ) → Some x ≡ Some y → x ≡ y
-some_same x y e = cc
-
 not_none : (x : List ℕ) → Some x ≡ None → ⊥
 not_none x e = cc
 
@@ -342,7 +337,7 @@ is_cooked : (units : List ℕ) (ps : List t.Part) → Some units ≡ cooked ps �
 is_cooked units ps e = ⊎_elim
     (λ (b : list_any is_bad ps ≡ true). absurd (not_none units (e ∙ ap (λ x. if x then None else Some (flat_map part_units ps)) b)))
     (λ (b : list_any is_bad ps ≡ false).
-    record { good = b; value = some_same units (flat_map part_units ps) (e ∙ ap (λ x. if x then None else Some (flat_map part_units ps)) b) })
+    record { good = b; value = same_Some units (flat_map part_units ps) (e ∙ ap (λ x. if x then None else Some (flat_map part_units ps)) b) })
     (cases_Bool (list_any is_bad ps))
 
 piece : (own text units after rest : List ℕ) (e : Ending) → IsRead text units after → Ends e after rest → text ≡ own ++ after → SpellsPiece own (Some units) e text rest

@@ -2,7 +2,7 @@
 use Rattle.std.proofs.Common.{◌≡◌, ℕ, zero, ◌<◌, ◌≤◌, Bool, true, false, List, [], ◌∷◌, ◌++◌, refl, sym, ap, ◌∙◌, arith}
 use Rattle.std.specs.Prelude.{if◌then◌else◌, nat_lt, ◌&&◌, ◌||◌, ◌==◌, not}
 use Rattle.std.specs.Str.Parse.{digits_value}
-use Rattle.std.proofs.lemmas.Bool.{ltb-false, eqb-true, ne_eqb, false≢true, and_parts}
+use Rattle.std.proofs.lemmas.Bool.{ltb-false, eqb-true, ne_eqb, false≢true, and_parts, cond_both, and_from}
 use Rattle.std.proofs.lemmas.Bool.Decides.{nat_tests}
 use Rattle.lex_pieces.specs.Runs.{Each}
 use Rattle.lex_literal.specs.Escapes.{is_hex, is_special}
@@ -16,10 +16,6 @@ use Rattle.print_spelling.proofs.template.LineLemmas.{is_other}
 
 pub bare_parts : (c : ℕ) (rest : List ℕ) → (c == 92) ≡ false → parts zero (c ∷ rest) ≡ p.Code c ∷ parts zero rest
 bare_parts c rest e = ap (λ b. (if b then behind_backslash rest else p.Code c) ∷ parts (if b then escape_more rest else 0) rest) e
-
-pub both : (a b : Bool) → a ≡ true → b ≡ true → (a && b) ≡ true
-both true b e f = f
-both false b e f = e
 
 pub pair_parts : (d : ℕ) (rest : List ℕ) → (d == 120) ≡ false → parts zero (92 ∷ d ∷ rest) ≡ escaped d rest ∷ parts zero rest
 pair_parts d rest e = ap (λ b. escaped d rest ∷ parts (if b && begins_digits rest then 3 else 1) (d ∷ rest)) e
@@ -40,7 +36,7 @@ pub hex_parts : (a b : ℕ) (rest : List ℕ) → is_hex a ≡ true → is_hex b
     → parts zero (92 ∷ 120 ∷ a ∷ b ∷ rest) ≡ hex_part a b (digits_value 16 (a ∷ b ∷ [])) ∷ parts zero rest
 hex_parts a b rest h k =
     ap (λ x. (if x then hex_part a b (digits_value 16 (a ∷ b ∷ [])) else p.Pair 120) ∷ parts (if x then 3 else 1) (120 ∷ a ∷ b ∷ rest))
-    (both (is_hex a) (is_hex b) h k)
+    (and_from (is_hex a) (is_hex b) h k)
 
 -- ---- characters that stand for themselves
 
@@ -50,9 +46,14 @@ is_self c = nat_lt 47 c && (nat_lt c 0x7F && not (c == 92 || c == 96))
 record IsSelf (g : Form) : Type 0 where
   is : g ≡ f.Bare
 
-by_test : (b : Bool) (x y : Form) (P : Form → Type 0) → (b ≡ true → P x) → (b ≡ false → P y) → P (if b then x else y)
-by_test true x y P f g = f refl
-by_test false x y P f g = g refl
+self_no_backslash : (c : ℕ) → is_self c ≡ true → (c == 92) ≡ false
+self_no_backslash c h = grind (arith, nat_tests)
+
+self_no_dollar : (c : ℕ) → is_self c ≡ true → (c == 36) ≡ false
+self_no_dollar c h = grind (arith, nat_tests)
+
+self_other : (c : ℕ) → is_self c ≡ true → is_other c ≡ true
+self_other c h = grind (arith, nat_tests)
 
 module _ (c : ℕ) (h : is_self c ≡ true) where
   self_low : 47 < c
@@ -61,31 +62,22 @@ module _ (c : ℕ) (h : is_self c ≡ true) where
   self_high : c < 0x7F
   self_high = grind (arith, nat_tests)
 
-  self_no_backslash : (c == 92) ≡ false
-  self_no_backslash = grind (arith, nat_tests)
-
-  self_no_dollar : (c == 36) ≡ false
-  self_no_dollar = grind (arith, nat_tests)
-
-  self_other : is_other c ≡ true
-  self_other = grind (arith, nat_tests)
-
   below : (k : ℕ) → k ≤ 47 → (c == k) ≡ true → ⊥
   below k l e = let x = eqb-true c k e in let y = self_low in omega arith
 
   self_form : (style : Style) (digit : Bool) → IsSelf (form_of style false digit c)
   self_form style digit =
-      by_test (c == 0) _ _ IsSelf
+      cond_both (c == 0) _ _ IsSelf
       (λ e. absurd (below 0 (omega arith) e))
-      (λ _. by_test (c == 8) _ _ IsSelf
+      (λ _. cond_both (c == 8) _ _ IsSelf
       (λ e. absurd (below 8 (omega arith) e))
-      (λ _. by_test (c == 11) _ _ IsSelf
+      (λ _. cond_both (c == 11) _ _ IsSelf
       (λ e. absurd (below 11 (omega arith) e))
-      (λ _. by_test (c == 12) _ _ IsSelf
+      (λ _. cond_both (c == 12) _ _ IsSelf
       (λ e. absurd (below 12 (omega arith) e))
-      (λ _. by_test (c == 123 && false) _ _ IsSelf
+      (λ _. cond_both (c == 123 && false) _ _ IsSelf
       (λ e. absurd (false≢true (and_parts (c == 123) false e).1))
-      (λ _. by_test (nat_lt c 0x7F) _ _ IsSelf
+      (λ _. cond_both (nat_lt c 0x7F) _ _ IsSelf
       (λ e. record { is = refl })
       (λ e. absurd (let x = ltb-false c 0x7F e in let y = self_high in omega arith)))))))
 
@@ -107,7 +99,3 @@ hex_self c h = grind (arith, nat_tests)
 pub hexes_self : (ds : List ℕ) → Each is_hex ds → Each is_self ds
 hexes_self [] h = tt
 hexes_self (d ∷ ds) h = (hex_self d h.0, hexes_self ds h.1)
-
-pub each_append : (q : ℕ → Bool) (xs ys : List ℕ) → Each q xs → Each q ys → Each q (xs ++ ys)
-each_append q [] ys h i = i
-each_append q (x ∷ xs) ys h i = (h.0, each_append q xs ys h.1 i)

@@ -1,9 +1,9 @@
 -- What is written of a piece of a template, part by part.
 use Rattle.std.proofs.Common.{◌≡◌, ℕ, zero, ◌<◌, ◌≤◌, Bool, true, false, List, [], ◌∷◌, ◌++◌, length, refl, sym, ap, subst, ◌∙◌, arith, IsUtf8}
-use Rattle.std.specs.Prelude.{◌≢◌, if◌then◌else◌, nat_lt, ◌&&◌, ◌||◌, ◌==◌, encode_utf8_all}
+use Rattle.std.specs.Prelude.{◌≢◌, nat_lt, ◌&&◌, ◌||◌, ◌==◌, encode_utf8_all}
 use Rattle.std.specs.Char.{IsScalar}
 use Rattle.std.specs.List.{prefix_len}
-use Rattle.std.proofs.lemmas.Bool.{false≢true, and_parts}
+use Rattle.std.proofs.lemmas.Bool.{false≢true, and_parts, cond_both}
 use Rattle.std.proofs.lemmas.Bool.Decides.{nat_tests}
 use Rattle.std.proofs.lemmas.Str.{encodes-append}
 use Rattle.lex_pieces.specs.Runs.{Each, run, after}
@@ -22,6 +22,7 @@ use Rattle.print_spelling.specs.Template.Templates.{is_separator, form_of, part_
 use Rattle.print_spelling.proofs.template.LineLemmas.{is_other, fed_run, fed_other}
 use Rattle.print_spelling.proofs.template.ReadLemmas.{part_text_more}
 use Rattle.print_spelling.proofs.template.SplitLemmas.{bare_parts}
+use Rattle.print_spelling.proofs.string.QuotedLemmas.{scalar_code}
 
 -- ---- runs
 
@@ -130,9 +131,14 @@ part_bytes style dollar d ps qs x made e same behind =
 record IsPlain (g : Form) : Type 0 where
   is : g ≡ f.Bare
 
-by_test : (b : Bool) (x y : Form) (P : Form → Type 0) → (b ≡ true → P x) → (b ≡ false → P y) → P (if b then x else y)
-by_test true x y P f g = f refl
-by_test false x y P f g = g refl
+plain_backslash : (c : ℕ) → is_plain_byte c ≡ true → (c == 92) ≡ false
+plain_backslash c h = grind (arith, nat_tests)
+
+plain_dollar : (c : ℕ) → is_plain_byte c ≡ true → (c == 36) ≡ false
+plain_dollar c h = grind (arith, nat_tests)
+
+plain_other : (c : ℕ) → is_plain_byte c ≡ true → is_other c ≡ true
+plain_other c h = grind (arith, nat_tests)
 
 module _ (c : ℕ) (h : is_plain_byte c ≡ true) where
   plain_zero : (c == 0) ≡ false
@@ -153,28 +159,19 @@ module _ (c : ℕ) (h : is_plain_byte c ≡ true) where
   plain_low : nat_lt c 0x7F ≡ true
   plain_low = grind (arith, nat_tests)
 
-  plain_backslash : (c == 92) ≡ false
-  plain_backslash = grind (arith, nat_tests)
-
-  plain_dollar : (c == 36) ≡ false
-  plain_dollar = grind (arith, nat_tests)
-
-  plain_other : is_other c ≡ true
-  plain_other = grind (arith, nat_tests)
-
   plain_form : (style : Style) (dollar digit : Bool) → IsPlain (form_of style dollar digit c)
   plain_form style dollar digit =
-      by_test (c == 0) _ _ IsPlain
+      cond_both (c == 0) _ _ IsPlain
       (λ e. absurd (false≢true (sym plain_zero ∙ e)))
-      (λ _. by_test (c == 8) _ _ IsPlain
+      (λ _. cond_both (c == 8) _ _ IsPlain
       (λ e. absurd (false≢true (sym plain_eight ∙ e)))
-      (λ _. by_test (c == 11) _ _ IsPlain
+      (λ _. cond_both (c == 11) _ _ IsPlain
       (λ e. absurd (false≢true (sym plain_tab ∙ e)))
-      (λ _. by_test (c == 12) _ _ IsPlain
+      (λ _. cond_both (c == 12) _ _ IsPlain
       (λ e. absurd (false≢true (sym plain_feed ∙ e)))
-      (λ _. by_test (c == 123 && dollar) _ _ IsPlain
+      (λ _. cond_both (c == 123 && dollar) _ _ IsPlain
       (λ e. absurd (false≢true (sym plain_brace ∙ (and_parts (c == 123) dollar e).0)))
-      (λ _. by_test (nat_lt c 0x7F) _ _ IsPlain
+      (λ _. cond_both (nat_lt c 0x7F) _ _ IsPlain
       (λ e. record { is = refl })
       (λ e. absurd (false≢true (sym e ∙ plain_low))))))))
 
@@ -212,31 +209,28 @@ plain_run style dollar cs (c ∷ own) rest bytes e f same some =
 record CanWrite (c : ℕ) (g : Form) : Type 0 where
   writes : Writes g c
 
-scalar_code : (c : ℕ) → IsScalar c → c < 0x110000
-scalar_code c h = grind (arith, nat_tests)
-
 pub can_write : (style : Style) (dollar digit : Bool) (c : ℕ) (g : Form) → IsScalar c → g ≡ form_of style dollar digit c → Writes g c
 can_write style dollar digit c g s e =
     let code = scalar_code c s in
     let bare : CanWrite c f.Bare = record { writes = s } in
     let hex : CanWrite c f.Hex = record { writes = code } in
     subst (λ x. Writes x c) (sym e)
-    (by_test (c == 0) _ _ (CanWrite c)
-    (λ _. by_test digit _ _ (CanWrite c) (λ _. hex) (λ _. record { writes = code }))
-    (λ _. by_test (c == 8) _ _ (CanWrite c)
+    (cond_both (c == 0) _ _ (CanWrite c)
+    (λ _. cond_both digit _ _ (CanWrite c) (λ _. hex) (λ _. record { writes = code }))
+    (λ _. cond_both (c == 8) _ _ (CanWrite c)
     (λ _. record { writes = omega arith })
-    (λ _. by_test (c == 11) _ _ (CanWrite c)
+    (λ _. cond_both (c == 11) _ _ (CanWrite c)
     (λ _. record { writes = omega arith })
-    (λ _. by_test (c == 12) _ _ (CanWrite c)
+    (λ _. cond_both (c == 12) _ _ (CanWrite c)
     (λ _. record { writes = omega arith })
-    (λ _. by_test (c == 123 && dollar) _ _ (CanWrite c)
+    (λ _. cond_both (c == 123 && dollar) _ _ (CanWrite c)
     (λ _. record { writes = omega arith })
-    (λ _. by_test (nat_lt c 0x7F) _ _ (CanWrite c)
+    (λ _. cond_both (nat_lt c 0x7F) _ _ (CanWrite c)
     (λ _. bare)
-    (λ _. by_test (nat_lt c 0x100) _ _ (CanWrite c)
+    (λ _. cond_both (nat_lt c 0x100) _ _ (CanWrite c)
     (λ _. hex)
-    (λ _. by_test (is_separator c || c == 0xFEFF) _ _ (CanWrite c)
+    (λ _. cond_both (is_separator c || c == 0xFEFF) _ _ (CanWrite c)
     (λ _. record { writes = code })
-    (λ _. by_test style.ascii_only _ _ (CanWrite c)
+    (λ _. cond_both style.ascii_only _ _ (CanWrite c)
     (λ _. record { writes = code })
     (λ _. bare)))))))))).writes

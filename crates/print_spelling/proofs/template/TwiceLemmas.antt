@@ -3,9 +3,10 @@ use Rattle.std.proofs.Common.{◌≡◌, ℕ, zero, ◌<◌, ◌≤◌, Bool, tr
 use Rattle.std.specs.Prelude.{if◌then◌else◌, nat_lt, ◌&&◌, ◌||◌, ◌==◌}
 use Rattle.std.specs.Char.{digit_value}
 use Rattle.std.specs.Str.Parse.{digits_value}
-use Rattle.std.proofs.lemmas.Bool.{ltb-true, ltb-false, eqb-true, false≢true, and_parts}
+use Rattle.std.proofs.lemmas.Bool.{ltb-true, ltb-false, eqb-true, false≢true, and_parts, cond_both, and_from}
 use Rattle.std.proofs.lemmas.Bool.Decides.{nat_tests}
 use Rattle.lex_pieces.specs.Runs.{Each}
+use Rattle.lex_pieces.proofs.Passing.{each_append}
 use Rattle.lex_literal.specs.Escapes.{begins, is_decimal, is_hex, is_special}
 use Rattle.lex_literal.specs.Templates.{is_bare, is_brace}
 use Rattle.print_spelling.specs.declared.form.Form.{Form}
@@ -17,8 +18,8 @@ use Rattle.print_spelling.specs.declared.template.part.Part.{Part}
 use Rattle.print_spelling.specs.declared.template.part.Part.TheVariants as p
 use Rattle.print_spelling.specs.Template.Templates.{is_kept_code, is_printed, is_separator, stays, hex_part, escaped, form_of, part_text, digit_first, dollar_behind, parts, parts_text}
 use Rattle.print_spelling.proofs.template.LineLemmas.{is_other}
-use Rattle.print_spelling.proofs.template.PartLemmas.{may_stand}
-use Rattle.print_spelling.proofs.template.SplitLemmas.{both, bare_parts, pair_parts, no_special_x, no_special_return, hex_other, hex_parts, is_self, self_text, each_other, hexes_self, each_append}
+use Rattle.print_spelling.proofs.template.PartLemmas.{may_stand, printed_stands, separator_special}
+use Rattle.print_spelling.proofs.template.SplitLemmas.{bare_parts, pair_parts, no_special_x, no_special_return, hex_other, hex_parts, is_self, self_text, each_other, hexes_self}
 
 -- ---- parts that written text is split into again
 
@@ -41,10 +42,6 @@ pub record AreTwice (style : Style) (ps : List Part) : Type 0 where
 
 pub none_twice : (style : Style) → AreTwice style []
 none_twice style = record { text = λ dollar m. refl; first = λ dollar. refl; other = λ dollar. tt }
-
-by_form : (b : Bool) (x y : Form) (P : Form → Type 0) → (b ≡ true → P x) → (b ≡ false → P y) → P (if b then x else y)
-by_form true x y P h k = h refl
-by_form false x y P h k = k refl
 
 part_true : (b : Bool) (x y : Part) → b ≡ true → (if b then x else y) ≡ x
 part_true b x y e = ap (λ t. if t then x else y) e
@@ -191,28 +188,28 @@ module _ (style : Style) (rest : List ℕ) (i : AreTwice style (parts zero rest)
 
     turned : Turns (form_of style dollar (digit_first (parts zero rest)) c)
     turned =
-        by_form (c == 0) _ _ Turns
-        (λ a. by_form (digit_first (parts zero rest)) _ _ Turns
+        cond_both (c == 0) _ _ Turns
+        (λ a. cond_both (digit_first (parts zero rest)) _ _ Turns
         (λ b. self f.Hex (zero_split (eqb-true c 0 a)) (hexed_other c (parts_text style (c == 36) (parts zero rest) []) (i.other (c == 36))))
         (λ b. self f.Nul (ap (λ (x : ℕ). p.Code x ∷ parts zero (parts_text style (c == 36) (parts zero rest) [])) (sym (eqb-true c 0 a)))
         (refl, (refl, i.other (c == 36)))))
-        (λ a. by_form (c == 8) _ _ Turns
+        (λ a. cond_both (c == 8) _ _ Turns
         (λ e. letter 98 8 (eqb-true c 8 e) refl refl refl refl)
-        (λ _. by_form (c == 11) _ _ Turns
+        (λ _. cond_both (c == 11) _ _ Turns
         (λ e. letter 118 11 (eqb-true c 11 e) refl refl refl refl)
-        (λ _. by_form (c == 12) _ _ Turns
+        (λ _. cond_both (c == 12) _ _ Turns
         (λ e. letter 102 12 (eqb-true c 12 e) refl refl refl refl)
-        (λ _. by_form (c == 123 && dollar) _ _ Turns
+        (λ _. cond_both (c == 123 && dollar) _ _ Turns
         (λ e. self (f.Letter 123)
         (ap (λ (x : ℕ). p.Code x ∷ parts zero (parts_text style (c == 36) (parts zero rest) [])) (sym (eqb-true c 123 (and_parts (c == 123) dollar e).0)))
         (refl, (refl, i.other (c == 36))))
-        (λ _. by_form (nat_lt c 0x7F) _ _ Turns
+        (λ _. cond_both (nat_lt c 0x7F) _ _ Turns
         (λ _. bare)
-        (λ h. by_form (nat_lt c 0x100) _ _ Turns
+        (λ h. cond_both (nat_lt c 0x100) _ _ Turns
         (λ k. hexed (ltb-false c 0x7F h) (ltb-true c 0x100 k))
-        (λ _. by_form (is_separator c || c == 0xFEFF) _ _ Turns
+        (λ _. cond_both (is_separator c || c == 0xFEFF) _ _ Turns
         (λ _. four_digits (ltb-false c 0x7F h))
-        (λ _. by_form style.ascii_only _ _ Turns
+        (λ _. cond_both style.ascii_only _ _ Turns
         (λ _. braces (ltb-false c 0x7F h))
         (λ _. bare)))))))))
 
@@ -280,30 +277,23 @@ selves_twice style (d ∷ ds) rest h i =
 record IsSoundPart (rest : List ℕ) (x : Part) : Type 0 where
   pub is : IsSound x rest
 
-by_part : (b : Bool) (x y : Part) (P : Part → Type 0) → (b ≡ true → P x) → (b ≡ false → P y) → P (if b then x else y)
-by_part true x y P h k = h refl
-by_part false x y P h k = k refl
-
 module _ (d : ℕ) (code : d < 0x110000) (s : is_special d ≡ false) where
-  separator_special : is_separator d ≡ true → is_special d ≡ true
-  separator_special e = grind (arith, nat_tests)
-
   single_stands : stays d ≡ false → may_stand d ≡ true
   single_stands e = grind (arith, nat_tests)
 
   single_is : (rest : List ℕ) → IsSoundPart rest (escaped d rest)
   single_is rest =
-      by_part (d == 120) _ _ (IsSoundPart rest)
+      cond_both (d == 120) _ _ (IsSoundPart rest)
       (λ e. absurd (false≢true (sym (no_special_x d s) ∙ e)))
-      (λ a. by_part (d == 110) _ _ (IsSoundPart rest)
+      (λ a. cond_both (d == 110) _ _ (IsSoundPart rest)
       (λ e. record { is = refl })
-      (λ b. by_part (d == 116) _ _ (IsSoundPart rest)
+      (λ b. cond_both (d == 116) _ _ (IsSoundPart rest)
       (λ e. record { is = refl })
-      (λ t. by_part (d == 48) _ _ (IsSoundPart rest)
+      (λ t. cond_both (d == 48) _ _ (IsSoundPart rest)
       (λ e. absurd (false≢true (sym s ∙ ap is_special (eqb-true d 48 e))))
-      (λ z. by_part (is_separator d) _ _ (IsSoundPart rest)
-      (λ e. absurd (false≢true (sym s ∙ separator_special e)))
-      (λ q. by_part (stays d) _ _ (IsSoundPart rest)
+      (λ z. cond_both (is_separator d) _ _ (IsSoundPart rest)
+      (λ e. absurd (false≢true (sym s ∙ separator_special d e)))
+      (λ q. cond_both (stays d) _ _ (IsSoundPart rest)
       (λ e. record {
         is = (
           a,
@@ -314,7 +304,7 @@ module _ (d : ℕ) (code : d < 0x110000) (s : is_special d ≡ false) where
               ∙ part_true (stays d) _ _ e,
         );
       })
-      (λ k. by_part (d == 36 && begins is_brace rest) _ _ (IsSoundPart rest)
+      (λ k. cond_both (d == 36 && begins is_brace rest) _ _ (IsSoundPart rest)
       (λ e. record {
         is = (
           a,
@@ -324,16 +314,13 @@ module _ (d : ℕ) (code : d < 0x110000) (s : is_special d ≡ false) where
               part_false (d == 120) _ _ a ∙ part_false (d == 110) _ _ b ∙ part_false (d == 116) _ _ t ∙ part_false (d == 48) _ _ z
               ∙ part_false (is_separator d) _ _ q
               ∙ part_false (stays d) _ _ k
-              ∙ part_true (d == 36 && begins is_brace cs) _ _ (both (d == 36) (begins is_brace cs) both_are.0 (g both_are.1)),
+              ∙ part_true (d == 36 && begins is_brace cs) _ _ (and_from (d == 36) (begins is_brace cs) both_are.0 (g both_are.1)),
         );
       })
       (λ _. record { is = single_stands k })))))))
 
 pub single_sound : (d : ℕ) (rest : List ℕ) → d < 0x110000 → is_special d ≡ false → IsSound (escaped d rest) rest
 single_sound d rest code s = (single_is d code s rest).is
-
-printed_stands : (n : ℕ) → is_kept_code n ≡ false → is_printed n ≡ true → may_stand n ≡ true
-printed_stands n k q = grind (arith, nat_tests)
 
 two_low : (a b : ℕ) → is_hex a ≡ true → is_hex b ≡ true → digits_value 16 (a ∷ b ∷ []) < 256
 two_low a b h i =
@@ -343,8 +330,8 @@ two_low a b h i =
 
 pub hex_sound : (a b : ℕ) (rest : List ℕ) → is_hex a ≡ true → is_hex b ≡ true → IsSound (hex_part a b (digits_value 16 (a ∷ b ∷ []))) rest
 hex_sound a b rest h i =
-    (by_part (is_kept_code (digits_value 16 (a ∷ b ∷ []))) _ _ (IsSoundPart rest)
+    (cond_both (is_kept_code (digits_value 16 (a ∷ b ∷ []))) _ _ (IsSoundPart rest)
     (λ k. record { is = (h, i, k) })
-    (λ k. by_part (is_printed (digits_value 16 (a ∷ b ∷ []))) _ _ (IsSoundPart rest)
+    (λ k. cond_both (is_printed (digits_value 16 (a ∷ b ∷ []))) _ _ (IsSoundPart rest)
     (λ q. record { is = printed_stands (digits_value 16 (a ∷ b ∷ [])) k q })
     (λ q. record { is = (two_low a b h i, k, q) }))).is

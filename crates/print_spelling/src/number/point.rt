@@ -90,6 +90,7 @@ fn minified_takes_point(value: &NumValue) -> bool
     ensures { result ≡ standing.takes_point (spec.minified value.now) }
 {
     let digits = value.digits();
+    // For the proof: two tests in place of one `||`, so that each way out has a goal of its own.
     if value.radix() != 10 {
         return false;
     }

@@ -10,6 +10,7 @@ fn operand(expr: &Expr) -> &Expr
     ensures same { result.now ≡ expr.now }
     ensures no_word { is_head_word result.now ≡ false }
 {
+    // For the proof: the read shows the kind, and by it no expression is `super` or `import`.
     let _ = &expr.kind;
     expr
 }
@@ -25,6 +26,7 @@ pub fn left_part(expr: &Expr) -> Option<&Expr>
         ExprKind::Member(x) => Some(x.obj.get()),
         ExprKind::TaggedTpl(x) => Some(x.tag.get()),
         ExprKind::Call(x) => match &x.callee {
+            // For the proof: `operand` hands on what it is given, with the fact that it is no `super` or `import`.
             Callee::Expr(callee) => Some(operand(callee.get())),
             Callee::Super(_) | Callee::Import(_) => None,
         },

@@ -1,5 +1,5 @@
 use Rattle.again_laws.proofs.derived.Programs.{same_program}
-use Rattle.again_laws.proofs.derived.Early.{legal_alike}
+use Rattle.again_laws.proofs.derived.EarlyErrors.{legal_alike}
 use Rattle.again_laws.proofs.derived.program_law.Goals as goal
 
 pub returns-clause-program : goal.returns-clause-program

@@ -1,4 +1,4 @@
-use Rattle.again_laws.proofs.derived_laws.BytesLemmas.{written_again}
+use Rattle.again_laws.proofs.derived_laws.WrittenAgain.{written_again}
 use Rattle.again_laws.proofs.derived_laws.written_again_law.Goals as goal
 
 pub returns : goal.returns

@@ -1,5 +1,5 @@
-use Rattle.again_laws.proofs.leaf.Canonical.{number_is_canonical}
-use Rattle.again_laws.proofs.leaf.Digits.{number_is_ascii, big_is_ascii}
+use Rattle.again_laws.proofs.leaf.CanonicalNumbers.{number_is_canonical}
+use Rattle.again_laws.proofs.leaf.NumbersAscii.{number_is_ascii, big_is_ascii}
 use Rattle.again_laws.proofs.leaf.numbers_are_canonical.Goals as goal
 
 pub returns-clause-canonical : goal.returns-clause-canonical

@@ -1,4 +1,4 @@
-use Rattle.again_laws.proofs.leaf.Alone.{string_alone}
+use Rattle.again_laws.proofs.leaf.StringAlone.{string_alone}
 use Rattle.again_laws.proofs.leaf.Units.{string_units}
 use Rattle.again_laws.proofs.leaf.Quotes.{quoted_scalars}
 use Rattle.again_laws.proofs.leaf.Pieces.{template_scalars}

@@ -1,4 +1,4 @@
-use Rattle.again_laws.proofs.leaf.Filled.{texts_mean}
+use Rattle.again_laws.proofs.leaf.TextsMean.{texts_mean}
 use Rattle.again_laws.proofs.leaf.texts_mean.Goals as goal
 
 pub returns : goal.returns

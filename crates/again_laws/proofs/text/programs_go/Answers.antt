@@ -1,4 +1,4 @@
-use Rattle.again_laws.proofs.text.Hashbangs.{programs_go}
+use Rattle.again_laws.proofs.text.ProgramsGo.{programs_go}
 use Rattle.again_laws.proofs.text.programs_go.Goals as goal
 
 pub returns : goal.returns

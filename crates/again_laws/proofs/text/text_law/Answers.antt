@@ -1,4 +1,4 @@
-use Rattle.again_laws.proofs.text.Written.{text_is_laid, text_is_written}
+use Rattle.again_laws.proofs.text.WrittenUtf8.{text_is_laid, text_is_written}
 use Rattle.again_laws.proofs.text.text_law.Goals as goal
 
 pub returns-clause-laid : goal.returns-clause-laid

@@ -1,4 +1,4 @@
-use Rattle.again_laws.proofs.text.Fitted.{texts_fit}
+use Rattle.again_laws.proofs.text.FittingTexts.{texts_fit}
 use Rattle.again_laws.proofs.text.texts_fit.Goals as goal
 
 pub returns : goal.returns

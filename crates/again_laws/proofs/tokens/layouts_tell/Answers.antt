@@ -1,5 +1,5 @@
 use Rattle.std.proofs.Common.{◌≡◌, refl}
-use Rattle.again_laws.proofs.tokens.Bridge.{bridge}
+use Rattle.again_laws.proofs.tokens.SaidIsTold.{bridge}
 use Rattle.again_laws.proofs.tokens.layouts_tell.Goals as goal
 
 pub returns : goal.returns

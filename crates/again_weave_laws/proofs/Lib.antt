@@ -1,0 +1,4 @@
+pub mod Cells
+pub mod Telling
+pub mod Weaving
+pub mod Back

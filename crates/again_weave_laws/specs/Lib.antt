@@ -1,0 +1,3 @@
+-- A text with other trivia between its tokens is read back.
+pub mod Cells
+pub mod Laws
