@@ -1,8 +1,9 @@
 -- The program that a text is, by the settings of a run, and why it is none.
-use Rattle.std.specs.Prelude.{◌≡◌, ◌⊎◌, ℕ, ◌+◌, ◌-◌, ◌/◌, ◌%◌, ◌≤◌, ◌<◌, ◌==◌, if◌then◌else◌, List, ◌∷◌, drop, length, Result, Ok, Err}
+use Rattle.std.specs.Prelude.{◌≡◌, ◌⊎◌, ℕ, ◌+◌, ◌-◌, ◌≤◌, ◌<◌, List, ◌∷◌, drop, length, Result, Ok, Err}
 use Rattle.base_token.specs.Dialect.{parts_of}
 use Rattle.base_token.specs.declared.error.Error.{Error}
 use Rattle.lex_pieces.specs.Places.{bytes}
+use Rattle.lex_step_laws.specs.Bounds.{characters_left}
 use Rattle.tree_spec.specs.Tree.{Tree}
 use Rattle.tree_nesting.specs.Nesting.{nesting}
 use Rattle.grammar_spec.specs.Judge.Early.{early_errors}
@@ -32,16 +33,12 @@ IsProgramOf o text t = Spells o t text × ((other : Tree) → TreeReads o other 
 abbrev pub outcome : Options → List ℕ → Result Tree reading.Fault
 outcome o text = read_text (is_module o.goal) o.syntax o.nesting text
 
--- How many characters are left where so many tokens may come, since four are counted for each (`bound` of lex_step_laws): it is meant for those behind the token at hand, or from it on where
--- it is a slash. One more than four for each may be the end behind a slash, or a fault of the lexer, which takes the rest of the text; then none is counted on.
-abbrev pub characters_left : ℕ → ℕ
-characters_left tokens = if tokens % 4 == 1 then 0 else (tokens - 1) / 4
-
 -- the place in a text before its last characters, so many of them
 abbrev pub place_before : ℕ → List ℕ → ℕ
 place_before n text = text_start + (bytes text - bytes (drop (length text - n) text))
 
--- The place in a text before the characters that are left where so many tokens may come.
+-- The place in a text before the characters that are left where so many tokens may come: where the token at hand ends, or where a slash begins; the end of the text behind a fault of the lexer
+-- (`the_bound_tells` of lex_step_laws).
 abbrev pub stops_at : ℕ → List ℕ → ℕ
 stops_at tokens text = place_before (characters_left tokens) text
 

@@ -1,6 +1,6 @@
 -- Where no rest stands: as the value of a key, before another item, as what a setter takes, under an initialiser, in another rest.
 use Rattle.std.proofs.Common.{◌≡◌, Bool, true, false, sym, ⊎_elim, true≢false}
-use Rattle.base_token.specs.declared.place.Span.{Span}
+use Rattle.tree_spec.specs.Span.{Span}
 use Rattle.tree_spec.specs.Tree.{Tree, Trees, more, array_pat, object_pat, assign_pat, rest_pat, key_value_pat_prop, setter_prop, block_stmt}
 use Rattle.grammar_spec.specs.Tokens.Input.{Input, Code}
 use Rattle.grammar_spec.specs.Tokens.Shape.{is_place}

@@ -1,6 +1,6 @@
 -- A child of a node with what it produces, and the forms that productions share: optional children, lists with commas, lists of statements.
 use Rattle.std.specs.Prelude.{◌≡◌, ◌≤◌, ◌⊎◌, ℕ, Bool, true, false, ◌&&◌, ◌||◌, if◌then◌else◌, List, [], ◌∷◌}
-use Rattle.base_token.specs.Kinds.{comma_kind, semicolon_kind}
+use Rattle.tree_spec.specs.Kinds.{comma_kind, semicolon_kind}
 use Rattle.tree_spec.specs.Tree.{Tree, ident, tpl_element}
 use Rattle.grammar_spec.specs.Tokens.Input.{Input, Code, Takes, kind, in_list, assigning, turned_strict}
 use Rattle.grammar_spec.specs.Tokens.Operators.{pauses}

@@ -1,9 +1,9 @@
 -- Expressions (ECMA-262, clause 13): what each node produces, over what its children produce. Each production is named as there.
 use Rattle.std.specs.Prelude.{◌≡◌, ◌≤◌, ◌<◌, ◌⊎◌, ℕ, Bool, true, false, not, ◌&&◌, ◌||◌, ◌==◌, List, [], ◌∷◌, Option, Some, None}
-use Rattle.base_token.specs.Numbers.{SpecNumber}
-use Rattle.base_token.specs.declared.place.Span.{Span}
-use Rattle.base_token.specs.Kinds.{hash_kind, dot_kind, dot_dot_dot_kind, bang_kind, left_paren_kind, right_paren_kind, left_bracket_kind, right_bracket_kind, left_brace_kind, right_brace_kind, back_quote_kind, template_kind, colon_kind, dollar_brace_kind, question_mark_kind, plus_plus_kind, minus_minus_kind, tilde_kind, str_kind, regex_kind, num_kind, big_int_kind, add_kind, sub_kind, mul_kind, assign_kind, await_kind, new_kind, super_kind, import_kind, yield_kind, typeof_kind, void_kind, delete_kind, meta_kind, target_kind}
-use Rattle.base_token.specs.Tokens.{Quoted, Piece, Pattern, Numeral, BigNumeral}
+use Rattle.tree_spec.specs.Numbers.{SpecNumber}
+use Rattle.tree_spec.specs.Span.{Span}
+use Rattle.tree_spec.specs.Kinds.{hash_kind, dot_kind, dot_dot_dot_kind, bang_kind, left_paren_kind, right_paren_kind, left_bracket_kind, right_bracket_kind, left_brace_kind, right_brace_kind, back_quote_kind, template_kind, colon_kind, dollar_brace_kind, question_mark_kind, plus_plus_kind, minus_minus_kind, tilde_kind, str_kind, regex_kind, num_kind, big_int_kind, add_kind, sub_kind, mul_kind, assign_kind, await_kind, new_kind, super_kind, import_kind, yield_kind, typeof_kind, void_kind, delete_kind, meta_kind, target_kind}
+use Rattle.tree_spec.specs.Tokens.{Quoted, Piece, Pattern, Numeral, BigNumeral}
 use Rattle.grammar_spec.specs.Tokens.Input.{Input, Code, Takes, TakesWord, TakesAnyWord, TakesName, TakesIn, Spans, first_span, brk, lo, content, with_in, assigning, template_goal, template_end_goal}
 use Rattle.grammar_spec.specs.Tokens.Operators.{expression_level, assignment_level, coalesce_level, unary_level, new_level, call_level, member_level, is_assign_op, right_level, operates, goes_expr, other_end}
 use Rattle.grammar_spec.specs.Tokens.Shape.{level, fits_left, is_chain, is_target, is_element, is_spread, is_prop, is_key, is_word_name, is_private, is_cooked, is_tail}

@@ -1,7 +1,7 @@
 -- Functions and classes (ECMA-262, clause 15), and the methods of objects (13.2.5, 15.4).
 use Rattle.std.specs.Prelude.{◌≡◌, ◌⊎◌, ℕ, Bool, true, false, not, ◌&&◌, ◌==◌, List, [], ◌∷◌, Option, Some, None}
-use Rattle.base_token.specs.declared.place.Span.{Span}
-use Rattle.base_token.specs.Kinds.{arrow_kind, left_paren_kind, right_paren_kind, left_brace_kind, right_brace_kind, mul_kind, assign_kind, function_kind, class_kind, extends_kind, accessor_kind, async_kind, get_kind, set_kind, static_kind}
+use Rattle.tree_spec.specs.Span.{Span}
+use Rattle.tree_spec.specs.Kinds.{arrow_kind, left_paren_kind, right_paren_kind, left_brace_kind, right_brace_kind, mul_kind, assign_kind, function_kind, class_kind, extends_kind, accessor_kind, async_kind, get_kind, set_kind, static_kind}
 use Rattle.tree_spec.specs.Tree.{Tree, plain_method}
 use Rattle.grammar_spec.specs.Tokens.Input.{Input, Code, Takes, TakesWord, Spans, kind, brk, with_in, by, binding, setting, turned_strict, in_body, in_arrow, in_field, in_static, in_list}
 use Rattle.grammar_spec.specs.Tokens.Operators.{assignment_level, new_level, key_end}

@@ -1,8 +1,8 @@
 -- Scripts and modules (ECMA-262, clause 16).
 use Rattle.std.specs.Prelude.{◌≡◌, ◌⊎◌, ℕ, Bool, true, false, not, ◌&&◌, ◌||◌, ◌==◌, List, [], ◌∷◌, Option, Some, None}
-use Rattle.base_token.specs.declared.place.Span.{Span}
-use Rattle.base_token.specs.Kinds.{left_brace_kind, right_brace_kind, comma_kind, mul_kind, shebang_kind, default_kind, function_kind, with_kind, class_kind, export_kind, import_kind, as_kind, assert_kind, async_kind, from_kind}
-use Rattle.base_token.specs.Tokens.{Line}
+use Rattle.tree_spec.specs.Span.{Span}
+use Rattle.tree_spec.specs.Kinds.{left_brace_kind, right_brace_kind, comma_kind, mul_kind, shebang_kind, default_kind, function_kind, with_kind, class_kind, export_kind, import_kind, as_kind, assert_kind, async_kind, from_kind}
+use Rattle.tree_spec.specs.Tokens.{Line}
 use Rattle.tree_spec.specs.Tree.{Tree}
 use Rattle.grammar_spec.specs.Tokens.Input.{Input, Code, Takes, TakesWord, TakesAnyWord, Spans, kind, kind2, brk, brk2, content, in_list}
 use Rattle.grammar_spec.specs.Tokens.Operators.{assignment_level, exports_end, source_end, plain_end}

@@ -1,7 +1,7 @@
 -- Patterns (ECMA-262, 13.15.5 and 14.3.3): they bind names or assign to targets, by the code; no expression stands in between.
 use Rattle.std.specs.Prelude.{◌≡◌, true, false, ◌&&◌, List}
-use Rattle.base_token.specs.declared.place.Span.{Span}
-use Rattle.base_token.specs.Kinds.{dot_dot_dot_kind, left_bracket_kind, right_bracket_kind, left_brace_kind, right_brace_kind, colon_kind, assign_kind}
+use Rattle.tree_spec.specs.Span.{Span}
+use Rattle.tree_spec.specs.Kinds.{dot_dot_dot_kind, left_bracket_kind, right_bracket_kind, left_brace_kind, right_brace_kind, colon_kind, assign_kind}
 use Rattle.grammar_spec.specs.Tokens.Input.{Input, Code, Takes, Spans, lo, dots_at, with_in, assigning}
 use Rattle.grammar_spec.specs.Tokens.Operators.{assignment_level}
 use Rattle.grammar_spec.specs.Tokens.Shape.{is_absent, is_key, is_simple, is_target_expr, is_bound_name, is_place, is_item_pat, is_pattern_prop, is_rest, takes_rest}

@@ -1,7 +1,7 @@
 -- Statements and declarations (ECMA-262, clause 14).
 use Rattle.std.specs.Prelude.{◌≡◌, ◌⊎◌, ℕ, Bool, true, false, not, ◌&&◌, ◌||◌, ◌==◌, if◌then◌else◌, List, [], ◌∷◌}
-use Rattle.base_token.specs.declared.place.Span.{Span}
-use Rattle.base_token.specs.Kinds.{left_paren_kind, right_paren_kind, left_bracket_kind, left_brace_kind, right_brace_kind, semicolon_kind, colon_kind, assign_kind, await_kind, case_kind, catch_kind, debugger_kind, default_kind, do_kind, else_kind, finally_kind, for_kind, function_kind, if_kind, return_kind, switch_kind, throw_kind, try_kind, var_kind, let_kind, const_kind, while_kind, with_kind, class_kind, in_kind, async_kind, of_kind, using_kind}
+use Rattle.tree_spec.specs.Span.{Span}
+use Rattle.tree_spec.specs.Kinds.{left_paren_kind, right_paren_kind, left_bracket_kind, left_brace_kind, right_brace_kind, semicolon_kind, colon_kind, assign_kind, await_kind, case_kind, catch_kind, debugger_kind, default_kind, do_kind, else_kind, finally_kind, for_kind, function_kind, if_kind, return_kind, switch_kind, throw_kind, try_kind, var_kind, let_kind, const_kind, while_kind, with_kind, class_kind, in_kind, async_kind, of_kind, using_kind}
 use Rattle.tree_spec.specs.Tree.{Tree}
 use Rattle.grammar_spec.specs.Tokens.Input.{Input, Code, Takes, TakesWord, Spans, kind, kind2, brk, brk2, rest, without_in, alone, binding, assigning, is_strict}
 use Rattle.grammar_spec.specs.Tokens.Operators.{expression_level, assignment_level, let_end, plain_end}

@@ -28,7 +28,7 @@ use Rattle.lex_step_laws.proofs.Trivia.{follow_no_longer, hashbang_shorter}
 
 -- ---- no token is a slash under the goal RegExp
 
-abbrev slashes : ℕ → Bool
+abbrev pub slashes : ℕ → Bool
 slashes kind = kind == div_kind || kind == div_assign_kind
 
 -- each kind is past this
@@ -122,7 +122,7 @@ after_other kind from n g = ⊎_elim
     (λ (f : (kind == template_kind) ≡ false). rw f (rw g (omega arith)))
     (cases_Bool (kind == template_kind))
 
-characters_kind : (text : List ℕ) (x : SpecLexeme) (rest : List ℕ) → IsCharacters text x rest → x.token.kind ≡ template_kind
+pub characters_kind : (text : List ℕ) (x : SpecLexeme) (rest : List ℕ) → IsCharacters text x rest → x.token.kind ≡ template_kind
 characters_kind text x rest h = ap (λ (l : SpecLexeme). l.token.kind) h.6
 
 after_characters : (kind : ℕ) (from : List ℕ) (n : ℕ) → kind ≡ template_kind → bound_by (last_after kind from) n ≡ 4 * n + 2

@@ -12,3 +12,4 @@ pub mod Steps
 pub mod Bounds
 pub mod Going
 pub mod Ends
+pub mod Stops

@@ -1,5 +1,5 @@
 -- How many tokens may still come from a text that is read.
-use Rattle.std.specs.Prelude.{ℕ, ◌+◌, ◌*◌, ◌<◌, ◌≤◌, length, max, Option, None, Some}
+use Rattle.std.specs.Prelude.{ℕ, ◌+◌, ◌-◌, ◌*◌, ◌/◌, ◌%◌, ◌<◌, ◌≤◌, ◌==◌, if◌then◌else◌, List, length, max, Option, None, Some}
 use Rattle.base_token.specs.Tokens.{Spot}
 use Rattle.lex_step_laws.specs.States.{Last, Slash, Characters, Fault, Text}
 
@@ -19,3 +19,21 @@ bound t = bound_by t.last (length t.left)
 abbrev pub Falls : Option Spot → ℕ → ℕ → Type 0
 Falls None old new = new ≤ old
 Falls (Some spot) old new = new < old
+
+-- How many characters are left where so many tokens may come, the one at hand among them: those behind that token; where it is a slash, which may be read again, those from it on.
+-- One more than four for each is a fault of the lexer, which takes the rest of the text, or the end behind a slash: then none is left.
+abbrev pub characters_left : ℕ → ℕ
+characters_left tokens = if tokens % 4 == 1 then 0 else (tokens - 1) / 4
+
+-- what is unread with a token at hand: what stands behind it; of a slash, which may be read again, the text from it on
+abbrev pub unread_by : Last → List ℕ → List ℕ
+unread_by (Slash from) left = from
+unread_by last left = left
+
+abbrev pub unread : Text → List ℕ
+unread t = unread_by t.last t.left
+
+-- where reading stands with a token at hand: at its end; at a slash, where that begins
+abbrev pub stands_by : Last → Spot → ℕ
+stands_by (Slash from) spot = spot.lo
+stands_by last spot = spot.hi

@@ -1,11 +1,11 @@
 -- Laws of steps.
-use Rattle.std.specs.Prelude.{◌≡◌, Option, None}
+use Rattle.std.specs.Prelude.{◌≡◌, ◌+◌, length, Option, None, Some}
 use Rattle.base_token.specs.Tokens.{Spot}
 use Rattle.lex_source.specs.Machine.{SameContexts, told_of}
 use Rattle.lex_source.specs.Settings.{Settings}
-use Rattle.lex_step_laws.specs.States.{State, again}
+use Rattle.lex_step_laws.specs.States.{State, again, place}
 use Rattle.lex_step_laws.specs.Steps.{IsStep}
-use Rattle.lex_step_laws.specs.Bounds.{Falls, bound}
+use Rattle.lex_step_laws.specs.Bounds.{Falls, bound, characters_left, stands_by, unread}
 
 -- A step is made from every state.
 abbrev pub AlwaysSteps : Type 0
@@ -19,3 +19,12 @@ BoundFalls = (s new : State) (out : Option Spot) → IsStep s out new → Falls 
 abbrev pub EndStays : Type 0
 EndStays = (s new : State) (settings : Settings) → again s ≡ None → IsStep s None new → SameContexts new.settings settings
     → IsStep (told_of settings new) None (told_of settings new)
+
+-- With a token at hand, how many tokens may come tells how many characters are unread; and these begin where that token ends, or where a slash begins. A fault takes the rest of the text.
+abbrev pub TellsTokens : Type 0
+TellsTokens = (s new : State) (spot : Spot) → IsStep s (Some spot) new
+    → (characters_left (1 + bound new.tokens) ≡ length (unread new.tokens)) × (place new.tokens.end (unread new.tokens) ≡ stands_by new.tokens.last spot)
+
+-- At the end it tells that none is left.
+abbrev pub TellsEnds : Type 0
+TellsEnds = (s new : State) → IsStep s None new → characters_left (bound new.tokens) ≡ 0

@@ -3,7 +3,7 @@
 #![tactic(auto)]
 
 ghost use Rattle.lex_step_laws.specs.Laws.{EndsByFault, OneStep};
-ghost use Rattle.lex_step_laws.specs.SteppingLaws.{AlwaysSteps, BoundFalls, EndStays};
+ghost use Rattle.lex_step_laws.specs.SteppingLaws.{AlwaysSteps, BoundFalls, EndStays, TellsEnds, TellsTokens};
 
 /// Law: the token that a step hands out, and the state behind it, are determined.
 pub fn one_step()
@@ -31,4 +31,11 @@ pub fn the_bound_falls()
 #[tactic(auto, using(crate::proofs::Ends::end_stays))]
 pub fn the_end_stays()
     ensures { EndStays }
+{}
+
+/// Law: how many tokens may come tells how many characters are left: behind the token at hand, from a slash on, and none at the end.
+#[tactic(auto, using(crate::proofs::Stops::tells_tokens, crate::proofs::Stops::tells_ends))]
+pub fn the_bound_tells()
+    ensures tokens { TellsTokens }
+    ensures ends { TellsEnds }
 {}

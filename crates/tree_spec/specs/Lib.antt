@@ -3,3 +3,14 @@ pub mod Places
 pub mod Folds
 pub mod Codes
 pub mod Laws
+pub use Rattle.base_token.specs.Kinds
+pub use Rattle.base_token.specs.Numbers
+pub use Rattle.base_token.specs.Operators
+pub use Rattle.base_token.specs.Reserved
+pub use Rattle.base_token.specs.Tokens
+pub use Rattle.base_token.specs.Words
+pub use Rattle.base_token.specs.declared.context.Context
+pub use Rattle.base_token.specs.declared.error.Error
+pub use Rattle.base_token.specs.declared.error.SyntaxError
+pub use Rattle.base_token.specs.declared.place.Span
+pub use Rattle.base_token.specs.declared.syntax.EsSyntax

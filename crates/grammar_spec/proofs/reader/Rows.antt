@@ -1,9 +1,9 @@
 -- Rows of facts: a program's text, how it is read, and what that must give.
 use Rattle.std.proofs.Common.{◌≡◌, ℕ, Bool, true, false, if◌then◌else◌, List, [], ◌∷◌, ◌++◌, Result, Ok, Err, codes, length, bytes_eq}
-use Rattle.base_token.specs.declared.error.Error.{Error}
-use Rattle.base_token.specs.declared.syntax.EsSyntax.{EsSyntax}
-use Rattle.base_token.specs.Operators.{operator_text}
-use Rattle.base_token.specs.Words.{kind_of}
+use Rattle.tree_spec.specs.Error.{Error}
+use Rattle.tree_spec.specs.EsSyntax.{EsSyntax}
+use Rattle.tree_spec.specs.Operators.{operator_text}
+use Rattle.tree_spec.specs.Words.{kind_of}
 use Rattle.tree_spec.specs.Tree.{Tree}
 use Rattle.grammar_spec.specs.Judge.Early.{row, early_errors, faults_in}
 use Rattle.grammar_spec.specs.Tokens.Input.{Input, script_code}

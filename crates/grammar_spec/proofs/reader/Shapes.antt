@@ -1,8 +1,8 @@
 -- The shape of a tree as a text, without places: a node in parentheses, its name first, an absent part as `-`, a hole as `_`.
 use Rattle.std.proofs.Common.{ℕ, Bool, ◌==◌, if◌then◌else◌, List, [], ◌∷◌, ◌++◌, Option, Some, None, codes}
-use Rattle.base_token.specs.Kinds.{var_kind, let_kind, new_kind, get_kind, set_kind, plus_plus_kind, minus_minus_kind, bang_kind, tilde_kind, add_kind, sub_kind}
-use Rattle.base_token.specs.Operators.{operator_text}
-use Rattle.base_token.specs.Words.{own_words, text_among}
+use Rattle.tree_spec.specs.Kinds.{var_kind, let_kind, new_kind, get_kind, set_kind, plus_plus_kind, minus_minus_kind, bang_kind, tilde_kind, add_kind, sub_kind}
+use Rattle.tree_spec.specs.Operators.{operator_text}
+use Rattle.tree_spec.specs.Words.{own_words, text_among}
 use Rattle.tree_spec.specs.Folds.{fold}
 use Rattle.tree_spec.specs.Tree.{Tree, script, es_module, import_decl, export_decl, named_export, export_default_decl, export_default_expr, export_all, import_named_specifier, import_default_specifier, import_star_as_specifier, export_namespace_specifier, export_default_specifier, export_named_specifier, block_stmt, empty_stmt, debugger_stmt, with_stmt, return_stmt, labeled_stmt, break_stmt, continue_stmt, if_stmt, switch_stmt, switch_case, throw_stmt, try_stmt, catch_clause, while_stmt, do_while_stmt, for_stmt, for_in_stmt, for_of_stmt, expr_stmt, class_decl, fn_decl, var_decl, using_decl, var_declarator, function, param, decorator, class, constructor, class_method, private_method, class_prop, private_prop, static_block, auto_accessor, ident_name, computed_prop_name, private_name, this_expr, array_lit, object_lit, fn_expr, unary_expr, update_expr, bin_expr, assign_expr, member_expr, super_prop_expr, cond_expr, call_expr, new_expr, seq_expr, ident, tpl, tpl_element, tagged_tpl, arrow_expr, class_expr, yield_expr, meta_prop_expr, await_expr, paren_expr, opt_chain_expr, opt_call, super, import, invalid, invalid_pat, invalid_target, expr_or_spread, spread_element, key_value_prop, assign_prop, getter_prop, setter_prop, method_prop, str_lit, bool_lit, null_lit, number_lit, big_int_lit, regex_lit, binding_ident, array_pat, rest_pat, object_pat, assign_pat, key_value_pat_prop, assign_pat_prop, expr_pat, list, absent, hole}
 

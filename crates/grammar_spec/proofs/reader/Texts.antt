@@ -1,11 +1,11 @@
 -- Programs of the facts as texts: a plain tokenizer for what they hold. A slash that no blank and no `=` follows opens a regular expression,
 -- and a word after `@` counts as spelled with an escape.
 use Rattle.std.proofs.Common.{ℕ, zero, suc, ◌+◌, Bool, true, false, not, ◌&&◌, ◌||◌, ◌==◌, nat_le, if◌then◌else◌, List, [], ◌∷◌, ◌++◌, length, take, drop, Some, pos, codes}
-use Rattle.base_token.specs.Numbers.{Scaled}
-use Rattle.base_token.specs.Kinds.{arrow_kind, hash_kind, dot_kind, dot_dot_dot_kind, bang_kind, left_paren_kind, right_paren_kind, left_bracket_kind, right_bracket_kind, left_brace_kind, right_brace_kind, semicolon_kind, comma_kind, back_quote_kind, template_kind, colon_kind, dollar_brace_kind, question_mark_kind, plus_plus_kind, minus_minus_kind, tilde_kind, str_kind, regex_kind, num_kind, big_int_kind, shebang_kind}
-use Rattle.base_token.specs.Operators.{operators}
-use Rattle.base_token.specs.Tokens.{Content, Bare, Named, Quoted, Piece, Pattern, Numeral, BigNumeral, Line}
-use Rattle.base_token.specs.Words.{kind_of}
+use Rattle.tree_spec.specs.Numbers.{Scaled}
+use Rattle.tree_spec.specs.Kinds.{arrow_kind, hash_kind, dot_kind, dot_dot_dot_kind, bang_kind, left_paren_kind, right_paren_kind, left_bracket_kind, right_bracket_kind, left_brace_kind, right_brace_kind, semicolon_kind, comma_kind, back_quote_kind, template_kind, colon_kind, dollar_brace_kind, question_mark_kind, plus_plus_kind, minus_minus_kind, tilde_kind, str_kind, regex_kind, num_kind, big_int_kind, shebang_kind}
+use Rattle.tree_spec.specs.Operators.{operators}
+use Rattle.tree_spec.specs.Tokens.{Content, Bare, Named, Quoted, Piece, Pattern, Numeral, BigNumeral, Line}
+use Rattle.tree_spec.specs.Words.{kind_of}
 use Rattle.grammar_spec.specs.Tokens.Input.{PlacedToken, no_context, div_goal}
 
 -- how many characters of a class a text begins with, and the place of a character

@@ -1,13 +1,13 @@
 -- Early errors (ECMA-262, clauses 12 to 16, those of this project's table): a walk over the finished tree that carries strictness, labels and
 -- flags, and lists faults with the places of their nodes.
 use Rattle.std.specs.Prelude.{ℕ, Bool, true, false, not, ◌&&◌, ◌||◌, ◌==◌, nat_le, nat_lt, if◌then◌else◌, List, [], ◌∷◌, ◌++◌, Option, Some, None, codes, bytes_eq}
-use Rattle.base_token.specs.declared.error.Error.{Error}
-use Rattle.base_token.specs.declared.error.SyntaxError.{SyntaxError}
-use Rattle.base_token.specs.declared.error.SyntaxError.TheVariants.{Unexpected, InvalidIdentInStrict, EvalAndArgumentsInStrict, LegacyOctal, LegacyDecimal, WithInStrict, NotSimpleAssign, UndefinedLabel, DuplicateLabel, IllegalBreak, IllegalContinue, ReturnNotAllowed, InvalidSuper, InvalidSuperCall, InvalidNewTarget, DuplicateConstructor, DuplicateProto, IllegalLanguageModeDirective, InitRequired, UsingDeclNotAllowed, UsingDeclNotAllowedForForInLoop, InvalidNameInUsingDecl, InitRequiredForUsingDecl}
-use Rattle.base_token.specs.declared.place.Span.{Span}
-use Rattle.base_token.specs.declared.syntax.EsSyntax.{EsSyntax}
-use Rattle.base_token.specs.Kinds.{const_kind, new_kind}
-use Rattle.base_token.specs.Reserved.{strict_reserved, is_among}
+use Rattle.tree_spec.specs.Error.{Error}
+use Rattle.tree_spec.specs.SyntaxError.{SyntaxError}
+use Rattle.tree_spec.specs.SyntaxError.TheVariants.{Unexpected, InvalidIdentInStrict, EvalAndArgumentsInStrict, LegacyOctal, LegacyDecimal, WithInStrict, NotSimpleAssign, UndefinedLabel, DuplicateLabel, IllegalBreak, IllegalContinue, ReturnNotAllowed, InvalidSuper, InvalidSuperCall, InvalidNewTarget, DuplicateConstructor, DuplicateProto, IllegalLanguageModeDirective, InitRequired, UsingDeclNotAllowed, UsingDeclNotAllowedForForInLoop, InvalidNameInUsingDecl, InitRequiredForUsingDecl}
+use Rattle.tree_spec.specs.Span.{Span}
+use Rattle.tree_spec.specs.EsSyntax.{EsSyntax}
+use Rattle.tree_spec.specs.Kinds.{const_kind, new_kind}
+use Rattle.tree_spec.specs.Reserved.{strict_reserved, is_among}
 use Rattle.tree_spec.specs.Tree.{Tree, Trees, none, more, script, es_module, import_named_specifier, import_default_specifier, import_star_as_specifier, export_named_specifier, export_namespace_specifier, block_stmt, with_stmt, return_stmt, labeled_stmt, break_stmt, continue_stmt, switch_stmt, while_stmt, do_while_stmt, for_stmt, for_in_stmt, for_of_stmt, class_decl, fn_decl, var_decl, using_decl, var_declarator, function, param, class, constructor, class_method, private_method, class_prop, private_prop, static_block, auto_accessor, fn_expr, update_expr, super_prop_expr, call_expr, ident, arrow_expr, class_expr, meta_prop_expr, paren_expr, member_expr, assign_expr, super, object_lit, key_value_prop, ident_name, getter_prop, setter_prop, method_prop, str_lit, number_lit, binding_ident, expr_pat, expr_stmt, absent}
 use Rattle.tree_spec.specs.Folds.{fold}
 use Rattle.grammar_spec.specs.Tokens.Shape.{is_absent, is_bound_name, is_use_strict, is_directive}

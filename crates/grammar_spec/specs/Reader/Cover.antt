@@ -1,7 +1,7 @@
 -- Expressions refined to patterns (ECMA-262, 13.15.5 and 15.3.1): a cover is read as an expression first.
 use Rattle.std.specs.Prelude.{ℕ, Bool, true, false, not, ◌&&◌, ◌||◌, ◌==◌, if◌then◌else◌, List, [], ◌∷◌, Some, None, Result, Ok}
-use Rattle.base_token.specs.declared.place.Span.{Span}
-use Rattle.base_token.specs.Kinds.{assign_kind}
+use Rattle.tree_spec.specs.Span.{Span}
+use Rattle.tree_spec.specs.Kinds.{assign_kind}
 use Rattle.tree_spec.specs.Tree.{Tree, Trees, none, more, array_lit, object_lit, assign_expr, ident, member_expr, super_prop_expr, paren_expr, opt_chain_expr, expr_or_spread, spread_element, key_value_prop, assign_prop, binding_ident, array_pat, object_pat, assign_pat, rest_pat, key_value_pat_prop, assign_pat_prop, expr_pat, invalid_target, hole, absent}
 use Rattle.grammar_spec.specs.Tokens.Input.{dots_at}
 use Rattle.grammar_spec.specs.Tokens.Shape.{is_simple, is_target_expr, is_structured}

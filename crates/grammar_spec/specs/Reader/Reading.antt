@@ -1,7 +1,7 @@
 -- The readers tied: each calls the others by one level less, and answers too deep at none.
 use Rattle.std.specs.Prelude.{ℕ, zero, suc, Bool, if◌then◌else◌, List, [], Result, Ok}
-use Rattle.base_token.specs.declared.error.Error.{Error}
-use Rattle.base_token.specs.declared.syntax.EsSyntax.{EsSyntax}
+use Rattle.tree_spec.specs.Error.{Error}
+use Rattle.tree_spec.specs.EsSyntax.{EsSyntax}
 use Rattle.tree_spec.specs.Tree.{Tree}
 use Rattle.grammar_spec.specs.Judge.Early.{early_errors}
 use Rattle.grammar_spec.specs.Tokens.Input.{PlacedToken, script_code, module_code}

@@ -1,8 +1,8 @@
 -- What a reading function reads from, and what it answers.
 use Rattle.std.specs.Prelude.{ℕ, zero, suc, Bool, true, false, not, ◌&&◌, ◌==◌, nat_lt, if◌then◌else◌, List, [], ◌∷◌, length, Result, Ok, Err}
-use Rattle.base_token.specs.declared.context.Context.{Context}
-use Rattle.base_token.specs.declared.place.Span.{Span}
-use Rattle.base_token.specs.Kinds.{semicolon_kind}
+use Rattle.tree_spec.specs.Context.{Context}
+use Rattle.tree_spec.specs.Span.{Span}
+use Rattle.tree_spec.specs.Kinds.{semicolon_kind}
 use Rattle.tree_spec.specs.Tree.{Tree}
 use Rattle.grammar_spec.specs.Tokens.Input.{PlacedToken, Input, Code, span, kind, lo, text, is_word, no_name, barred, others, hi_of}
 use Rattle.grammar_spec.specs.Tokens.Operators.{pauses}

@@ -1,10 +1,10 @@
 -- What a program is read from: tokens in their places, and what consuming one of them says.
 use Rattle.std.specs.Prelude.{◌≡◌, ℕ, ◌+◌, min, Bool, true, false, not, ◌&&◌, ◌||◌, ◌==◌, nat_le, if◌then◌else◌, List, [], ◌∷◌}
-use Rattle.base_token.specs.declared.context.Context.{Context}
-use Rattle.base_token.specs.declared.place.Span.{Span}
-use Rattle.base_token.specs.declared.syntax.EsSyntax.{EsSyntax}
-use Rattle.base_token.specs.Kinds.{end_kind, regex_kind, div_kind, div_assign_kind, null_kind, false_kind, await_kind, break_kind, let_kind, yield_kind, delete_kind, enum_kind, implements_kind, interface_kind, package_kind, private_kind, protected_kind, public_kind, static_kind}
-use Rattle.base_token.specs.Tokens.{Content, Bare, Named, Spot}
+use Rattle.tree_spec.specs.Context.{Context}
+use Rattle.tree_spec.specs.Span.{Span}
+use Rattle.tree_spec.specs.EsSyntax.{EsSyntax}
+use Rattle.tree_spec.specs.Kinds.{end_kind, regex_kind, div_kind, div_assign_kind, null_kind, false_kind, await_kind, break_kind, let_kind, yield_kind, delete_kind, enum_kind, implements_kind, interface_kind, package_kind, private_kind, protected_kind, public_kind, static_kind}
+use Rattle.tree_spec.specs.Tokens.{Content, Bare, Named, Spot}
 
 -- The lexical goal under which a token was read (clause 12): no template's characters, where a slash is an operator or where it opens a
 -- regular expression; the characters of a template; what ends them.

@@ -1,6 +1,6 @@
 -- How tightly operators bind, and what goes on after the last part of an expression, a binding, a field or an import.
 use Rattle.std.specs.Prelude.{ℕ, ◌+◌, Bool, false, not, ◌&&◌, ◌||◌, ◌==◌, nat_le, if◌then◌else◌}
-use Rattle.base_token.specs.Kinds.{end_kind, hash_kind, dot_kind, left_paren_kind, left_bracket_kind, left_brace_kind, right_brace_kind, comma_kind, back_quote_kind, question_mark_kind, plus_plus_kind, minus_minus_kind, str_kind, regex_kind, num_kind, big_int_kind, nullish_coalescing_kind, logical_or_kind, logical_and_kind, bit_or_kind, bit_xor_kind, bit_and_kind, eq_eq_kind, not_eq_eq_kind, lt_kind, gt_eq_kind, left_shift_kind, zero_fill_right_shift_kind, add_kind, sub_kind, mul_kind, div_kind, mod_kind, exp_kind, in_kind, instanceof_kind, assign_kind, nullish_assign_kind, from_kind, with_kind}
+use Rattle.tree_spec.specs.Kinds.{end_kind, hash_kind, dot_kind, left_paren_kind, left_bracket_kind, left_brace_kind, right_brace_kind, comma_kind, back_quote_kind, question_mark_kind, plus_plus_kind, minus_minus_kind, str_kind, regex_kind, num_kind, big_int_kind, nullish_coalescing_kind, logical_or_kind, logical_and_kind, bit_or_kind, bit_xor_kind, bit_and_kind, eq_eq_kind, not_eq_eq_kind, lt_kind, gt_eq_kind, left_shift_kind, zero_fill_right_shift_kind, add_kind, sub_kind, mul_kind, div_kind, mod_kind, exp_kind, in_kind, instanceof_kind, assign_kind, nullish_assign_kind, from_kind, with_kind}
 use Rattle.grammar_spec.specs.Tokens.Input.{Input, Code, kind, kind2, brk, is_word, always_reserved, has_in}
 
 -- ---- the levels of clause 13, from the loosest

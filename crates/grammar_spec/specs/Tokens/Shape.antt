@@ -1,7 +1,7 @@
 -- What the grammar asks of a tree before its tokens: its level, the class of its last part, and its sort.
 use Rattle.std.specs.Prelude.{ℕ, Bool, true, false, not, ◌&&◌, ◌||◌, ◌==◌, ◌+◌, min, nat_le, if◌then◌else◌, List, [], ◌∷◌, Option, Some, None, codes, bytes_eq}
-use Rattle.base_token.specs.Kinds.{in_kind, exp_kind, nullish_coalescing_kind, let_kind, assign_kind, get_kind, set_kind, static_kind}
-use Rattle.base_token.specs.declared.place.Span.{Span}
+use Rattle.tree_spec.specs.Kinds.{in_kind, exp_kind, nullish_coalescing_kind, let_kind, assign_kind, get_kind, set_kind, static_kind}
+use Rattle.tree_spec.specs.Span.{Span}
 use Rattle.grammar_spec.specs.Tokens.Operators.{expression_level, assignment_level, conditional_level, coalesce_level, bit_or_level, unary_level, update_level, new_level, call_level, member_level, primary_level, binary_level, other_end, postfix_end, closed_end, binding_end, key_end, accessor_end, static_end}
 use Rattle.tree_spec.specs.Folds.{fold}
 use Rattle.tree_spec.specs.Tree.{Tree, Trees, import_decl, export_decl, named_export, export_default_decl, export_default_expr, export_all, import_named_specifier, import_default_specifier, import_star_as_specifier, export_namespace_specifier, export_named_specifier, block_stmt, empty_stmt, debugger_stmt, with_stmt, return_stmt, labeled_stmt, break_stmt, continue_stmt, if_stmt, switch_stmt, switch_case, throw_stmt, try_stmt, catch_clause, while_stmt, do_while_stmt, for_stmt, for_in_stmt, for_of_stmt, expr_stmt, class_decl, fn_decl, var_decl, using_decl, var_declarator, function, param, class, constructor, class_method, private_method, class_prop, private_prop, static_block, auto_accessor, ident_name, computed_prop_name, private_name, this_expr, array_lit, object_lit, fn_expr, unary_expr, update_expr, bin_expr, assign_expr, member_expr, super_prop_expr, cond_expr, call_expr, new_expr, seq_expr, ident, tpl, tpl_element, tagged_tpl, arrow_expr, class_expr, yield_expr, meta_prop_expr, await_expr, paren_expr, opt_chain_expr, expr_or_spread, spread_element, key_value_prop, assign_prop, getter_prop, setter_prop, method_prop, str_lit, bool_lit, null_lit, number_lit, big_int_lit, regex_lit, binding_ident, array_pat, rest_pat, object_pat, assign_pat, key_value_pat_prop, assign_pat_prop, expr_pat, absent, hole, none, more}
