@@ -16,7 +16,7 @@ def parts(table):
     way = "let e : alternative (if_stmt p a b c) ≡ c = way (is_absent c) (if_stmt p a b c) c h in rw e (omega (arith))"
     shorter = with_one(table, "", "if_stmt", "(if_stmt p a b c) h = %s" % way, "h = no h")
     behind = "(before_alternative step (if_stmt p a b c) (entered step (if_stmt p a b c) s))"
-    way = "ap (λ x. left step (if_stmt p a b c) (walk_of step x %s)) (sym (other_way (is_absent c) (if_stmt p a b c) c h))" % behind
+    way = "ap (λ x. left step (if_stmt p a b c) (walk_of step x %s)) (sym (cond-false (is_absent c) (if_stmt p a b c) c (not-true (is_absent c) h)))" % behind
     if_link = with_one(table, "step ", "if_stmt", "step (if_stmt p a b c) s h = %s" % way, "s h = no h")
     return [
         definition(SPINES, "parts", parts),

@@ -90,6 +90,7 @@ use Rattle.std.proofs.Common.{◌≡◌, ◌∙◌, ℕ, Bool, true, false, ◌&
 use Rattle.std.specs.Ordering.{int_eq}
 use Rattle.std.specs.Bool.{Decides}
 use Rattle.std.proofs.Math.Bool.{beq}
+use Rattle.std.proofs.lemmas.Bool.{and_parts}
 use Rattle.std.proofs.lemmas.Bool.Decides.{Decides-eqb, Decides-int_eq}
 use Rattle.std.proofs.lemmas.Slice.Eq.{bytes_eq-Decides}
 use Rattle.base_token.specs.declared.place.Span.{Span}
@@ -104,14 +105,6 @@ no h = absurd cc
 
 both : {x y : Bool} → x ≡ true → y ≡ true → (x && y) ≡ true
 both h k = rw h k
-
-first : (x y : Bool) → (x && y) ≡ true → x ≡ true
-first true y h = refl
-first false y h = h
-
-rest : (x y : Bool) → (x && y) ≡ true → y ≡ true
-rest true y h = h
-rest false y h = no h
 
 same_nat_eq : (n : ℕ) → nat_eq n n ≡ true
 same_nat_eq n = (Decides-eqb n n).1 refl
@@ -143,9 +136,8 @@ span_at lo hi = record { lo = record { 0 = lo }; hi = record { 0 = hi } }
 
 from_equal_span : (a b : Span) → equal_span a b ≡ true → a ≡ b
 from_equal_span a b h =
-    let p = from_nat_eq a.lo.0 b.lo.0 (first (nat_eq a.lo.0 b.lo.0) (nat_eq a.hi.0 b.hi.0) h) in
-    let q = from_nat_eq a.hi.0 b.hi.0 (rest (nat_eq a.lo.0 b.lo.0) (nat_eq a.hi.0 b.hi.0) h) in
-    ap (λ n. span_at n a.hi.0) p ∙ ap (λ n. span_at b.lo.0 n) q
+    let k = and_parts (nat_eq a.lo.0 b.lo.0) (nat_eq a.hi.0 b.hi.0) h in
+    ap (λ n. span_at n a.hi.0) (from_nat_eq a.lo.0 b.lo.0 k.0) ∙ ap (λ n. span_at b.lo.0 n) (from_nat_eq a.hi.0 b.hi.0 k.1)
 
 same_equal_place : (a : Option Span) → equal_place a a ≡ true
 same_equal_place None = refl
@@ -173,9 +165,11 @@ same_equal_number (InRadix radix digits) = both (same_nat_eq radix) (same_bytes_
 
 from_equal_number : (a b : SpecNumber) → equal_number a b ≡ true → a ≡ b
 from_equal_number (Scaled d e) (Scaled d2 e2) h =
-    ap (λ x. Scaled x e) (from_bytes_eq d d2 (first (bytes_eq d d2) (int_eq e e2) h)) ∙ ap (λ x. Scaled d2 x) ((Decides-int_eq e e2).0 (rest (bytes_eq d d2) (int_eq e e2) h))
+    let k = and_parts (bytes_eq d d2) (int_eq e e2) h in
+    ap (λ x. Scaled x e) (from_bytes_eq d d2 k.0) ∙ ap (λ x. Scaled d2 x) ((Decides-int_eq e e2).0 k.1)
 from_equal_number (InRadix r d) (InRadix r2 d2) h =
-    ap (λ x. InRadix x d) (from_nat_eq r r2 (first (nat_eq r r2) (bytes_eq d d2) h)) ∙ ap (λ x. InRadix r2 x) (from_bytes_eq d d2 (rest (nat_eq r r2) (bytes_eq d d2) h))
+    let k = and_parts (nat_eq r r2) (bytes_eq d d2) h in
+    ap (λ x. InRadix x d) (from_nat_eq r r2 k.0) ∙ ap (λ x. InRadix r2 x) (from_bytes_eq d d2 k.1)
 from_equal_number (Scaled d e) (InRadix r d2) h = no h
 from_equal_number (InRadix r d) (Scaled d2 e) h = no h
 
@@ -199,7 +193,8 @@ LEMMAS_TAIL = """  from_equal t u h = no h
   from_equal_all : (ts us : Trees) → equal_all ts us ≡ true → ts ≡ us
   from_equal_all none none h = refl
   from_equal_all (more t ts) (more u us) h =
-      ap (λ x. more x ts) (from_equal t u (first (equal t u) (equal_all ts us) h)) ∙ ap (λ x. more u x) (from_equal_all ts us (rest (equal t u) (equal_all ts us) h))
+      let k = and_parts (equal t u) (equal_all ts us) h in
+      ap (λ x. more x ts) (from_equal t u k.0) ∙ ap (λ x. more u x) (from_equal_all ts us k.1)
   from_equal_all ts us h = no h
 
 -- the test says of two trees whether they are equal
@@ -208,20 +203,22 @@ equal_decides t u = (from_equal t u, λ h. rw h (same_equal u))
 """
 
 
+def each_of(n):
+    """The lemma that each of N tests holds where all do: of two it is the toolchain's."""
+    return "and_parts" if n == 2 else "each_of_%s" % COUNTS[n]
+
+
 def families():
     """For each number of fields: that each of some tests holds where all do, and that what is made of equal fields is equal."""
     out = []
     for n, word in COUNTS.items():
-        tests, fewer = list("abcdef"[:n]), COUNTS.get(n - 1)
+        if n == 2:
+            continue
+        tests = list("abcdef"[:n])
         held = " × ".join("(%s ≡ true)" % it for it in tests)
-        behind = "rest a (%s) h" % nested(tests[1:])
         out.append("each_of_%s : (%s : Bool) → (%s) ≡ true → %s\n" % (word, " ".join(tests), nested(tests), held))
-        start = "each_of_%s %s h = " % (word, " ".join(tests))
-        if fewer:
-            parts = ", ".join("k.%d" % i for i in range(n - 1))
-            out.append(start + "let k = each_of_%s %s (%s) in (first a (%s) h, %s)\n\n" % (fewer, " ".join(tests[1:]), behind, nested(tests[1:]), parts))
-        else:
-            out.append(start + "(first a b h, rest a b h)\n\n")
+        parts = ", ".join("l.%d" % i for i in range(n - 1))
+        out.append("each_of_%s %s h = let k = and_parts a (%s) h in let l = %s %s k.1 in (k.0, %s)\n\n" % (word, " ".join(tests), nested(tests[1:]), each_of(n - 1), " ".join(tests[1:]), parts))
     for n, word in COUNTS.items():
         own = list("abcdef"[:n])
         types = [it.upper() for it in own]
@@ -243,7 +240,7 @@ def from_clause(name, fields, args):
     if len(args) == 1:
         return "ap (λ x. %s x) (%s %s %s2 h)" % (name, lemmas[0], args[0], args[0])
     count = COUNTS[len(args)]
-    split = "each_of_%s %s h" % (count, " ".join("(%s)" % it for it in checks))
+    split = "%s %s h" % (each_of(len(args)), " ".join("(%s)" % it for it in checks))
     facts = ["(%s %s %s2 k.%d)" % (lemma, a, a, i) for i, (lemma, a) in enumerate(zip(lemmas, args))]
     names = "abcdef"[: len(args)]
     return "let k = %s in congr_%s (λ %s. %s %s) %s" % (split, count, " ".join(names), name, " ".join(names), " ".join(facts))

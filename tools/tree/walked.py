@@ -18,7 +18,7 @@ TURNED = {
 }
 
 # A property with an initialiser ends the walk.
-ENDED = {"assign_prop": ("false", "sym (none_left s)")}
+ENDED = {"assign_prop": ("false", "sym (and-false s)")}
 
 # A template's texts and expressions are gone over by turns.
 TPL = "texts_go (walked_all quasis) (clean_all quasis) (walked_all exprs) (clean_all exprs) (all_each quasis) (all_each exprs) s"

@@ -6,13 +6,9 @@ use Rattle.std.specs.Char.{digit_value, is_digit}
 use borrow.Author.Tests.{ltb-true}
 use Rattle.std.specs.Str.Parse.{digits_value, AllDigits}
 use Rattle.std.proofs.lemmas.Bool.Decides.{Decides-eqb}
+use Rattle.std.proofs.lemmas.Bool.{and_parts}
+use Rattle.std.proofs.lemmas.List.{nil_from_length}
 use Rattle.base_number.specs.Numbers.{trim_back, onto_trimmed, trim_front, goes_on, plain, signed}
-
-pub and_parts : (a b : Bool) → (a && b) ≡ true → (a ≡ true) × (b ≡ true)
-and_parts true true h = (refl, refl)
-and_parts true false h = (refl, h)
-and_parts false true h = (h, refl)
-and_parts false false h = (h, h)
 
 pub eqb_false : (m n : ℕ) → (m ≡ n → ⊥) → (m == n) ≡ false
 eqb_false m n differs =
@@ -77,14 +73,10 @@ zero_of_none : (negative : Bool) (ds : List ℕ) → ds ≡ [] → pos 0 ≡ sig
 zero_of_none true ds none = rw none refl
 zero_of_none false ds none = rw none refl
 
-no_items : (ds : List ℕ) → length ds ≡ 0 → ds ≡ []
-no_items [] none = refl
-no_items (d ∷ ds) none = absurd (omega arith)
-
 -- digits that are zeros alone are 0, with any sign
 pub signed_zero : (negative : Bool) (ds kept : List ℕ) → kept ≡ trim_front ds → length kept ≡ 0 → pos 0 ≡ signed negative ds
 signed_zero negative ds kept is none =
-    zero_of_none negative (trim_front ds) (sym is ∙ no_items kept none) ∙ signed_trimmed negative ds
+    zero_of_none negative (trim_front ds) (sym is ∙ nil_from_length kept none) ∙ signed_trimmed negative ds
 
 -- digits without zeros in front are the same number
 pub signed_kept : (negative : Bool) (ds kept : List ℕ) → kept ≡ trim_front ds → signed negative kept ≡ signed negative ds

@@ -11,13 +11,13 @@ use Rattle.std.specs.Str.Parse.{digits_value, AllDigits}
 use Rattle.std.specs.Int.Digits.{digits_of}
 use Rattle.std.proofs.lemmas.Int.Digits.{digits_value_push, digits_of_step}
 use Rattle.std.proofs.lemmas.Bool.Decides.{Decides-eqb, nat_tests}
-use Rattle.std.proofs.lemmas.Bool.{ltb-true}
+use Rattle.std.proofs.lemmas.Bool.{ltb-true, and_parts}
 use Rattle.std.proofs.lemmas.List.{map-append, reverse-reverse}
 use Rattle.std.proofs.lemmas.Grind.{reverse_onto}
 use Rattle.std.specs.Prelude.{ℤ, pos}
 use Rattle.base_number.specs.NumberForm.{IsSigned}
 use Rattle.base_number.specs.Numbers.{IsDecimal, IsLargeInRadix, trim_front, trim_back, onto_trimmed, plain, numeral, none_left, spells_digits, spells_integer, spells_mantissa, spells_non_octal, spells_octal}
-use Rattle.base_number.proofs.DigitLemmas.{by_test, and_parts, eqb_false, spelled_digits}
+use Rattle.base_number.proofs.DigitLemmas.{by_test, eqb_false, spelled_digits}
 use Rattle.base_number.proofs.DigitSums.{digit_range, all_but_last, value_cons}
 
 -- a digit is no separator

@@ -2,6 +2,7 @@
 use Rattle.std.proofs.Common.{◌≡◌, ℕ, Bool, true, false, not, ◌&&◌, ◌||◌, ◌⊎◌, ⊎_elim, List, [], ◌∷◌, refl, sym, ap, ◌∙◌, eq-eqb}
 use Rattle.std.specs.Prelude.{◌==◌, bytes_eq, codes}
 use Rattle.std.proofs.lemmas.Slice.Eq.{bytes_eq-Decides}
+use Rattle.std.proofs.lemmas.Bool.{and_parts}
 use Rattle.std.proofs.Math.Bool.{or-false}
 use Rattle.base_token.specs.Kinds.{name_kind, null_kind, true_kind, false_kind}
 use Rattle.base_token.specs.Words.{own_text, kind_of}
@@ -100,12 +101,6 @@ abbrev all_own : List (List ℕ) → Bool
 all_own [] = true
 all_own (word ∷ words) = not (kind_of word == name_kind) && all_own words
 
-own_parts : (a b : Bool) → (a && b) ≡ true → (a ≡ true) × (b ≡ true)
-own_parts true true h = (refl, refl)
-own_parts true false h = (refl, h)
-own_parts false true h = (h, refl)
-own_parts false false h = (h, h)
-
 differs_by_kind : (word text : List ℕ) → not (kind_of word == name_kind) ≡ true → name_kind ≡ kind_of text → bytes_eq word text ≡ false
 differs_by_kind word text own plain =
     let both : (b : Bool) → bytes_eq word text ≡ b → b ≡ false =
@@ -119,7 +114,7 @@ differs_by_kind word text own plain =
 unlisted : (words : List (List ℕ)) (text : List ℕ) → all_own words ≡ true → name_kind ≡ kind_of text → is_among words text ≡ false
 unlisted [] text own plain = refl
 unlisted (word ∷ words) text own plain =
-    let parts : (not (kind_of word == name_kind) ≡ true) × (all_own words ≡ true) = own_parts _ _ own in
+    let parts : (not (kind_of word == name_kind) ≡ true) × (all_own words ≡ true) = and_parts _ _ own in
     rw (differs_by_kind word text parts.0 plain) (unlisted words text parts.1 plain)
 
 always_own : all_own always_reserved ≡ true

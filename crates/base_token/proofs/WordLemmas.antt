@@ -1,8 +1,9 @@
 -- Lemmas on the tables of words.
-use Rattle.std.proofs.Common.{◌≡◌, ◌≢◌, length, ℕ, Bool, true, false, ◌&&◌, ◌||◌, List, [], ◌∷◌, refl, sym, ap, ◌∙◌, ◌<◌, ◌≤◌, ◌⊎◌, inl, inr, leb, ⊎_elim, subst, lit<, arith}
+use Rattle.std.proofs.Common.{◌≡◌, ◌≢◌, length, ℕ, Bool, true, false, ◌&&◌, List, [], ◌∷◌, refl, sym, ap, ◌∙◌, ◌<◌, ◌≤◌, ◌⊎◌, inl, inr, leb, ⊎_elim, subst, lit<, arith}
 use Rattle.std.specs.Prelude.{◌==◌, bytes_eq, if◌then◌else◌}
 use Rattle.std.proofs.lemmas.Slice.Eq.{bytes_eq-Decides}
 use Rattle.std.proofs.lemmas.Bool.Decides.{nat_tests}
+use Rattle.std.proofs.lemmas.Bool.{and_parts, leb-true}
 use Rattle.base_token.specs.Kinds.{name_kind, null_kind, true_kind, false_kind}
 use Rattle.base_token.specs.Words.{SpecWord, own_words, known_words, kind_among, text_among, kind_of, own_text, own_word, word_of, IsOwnName}
 use Rattle.base_token.specs.WordTable.{kind_at, place_of, text_at}
@@ -34,16 +35,6 @@ pub none_among : (words : List (ℕ × List ℕ)) (text : List ℕ) → Differs 
 none_among [] text differs = refl
 none_among (word ∷ words) text differs =
     rw (different_false word.1 text differs.0) (none_among words text differs.1)
-
-either_false : (a b : Bool) → (a || b) ≡ false → (a ≡ false) × (b ≡ false)
-either_false true b h = cc
-either_false false b h = (refl, h)
-
-and_parts : (a b : Bool) → (a && b) ≡ true → (a ≡ true) × (b ≡ true)
-and_parts true true h = (refl, refl)
-and_parts true false h = (refl, h)
-and_parts false true h = (h, refl)
-and_parts false false h = (h, h)
 
 same_place : (word text : List ℕ) → text ≡ word → (place_of word == place_of text) ≡ true
 same_place word text e =
@@ -97,14 +88,11 @@ abbrev within : List (ℕ × List ℕ) → Bool
 within [] = true
 within (word ∷ words) = (leb 2 (length word.1) && leb (length word.1) 10) && within words
 
-at_most : (a b : ℕ) → leb a b ≡ true → a ≤ b
-at_most a b h = grind (arith, nat_tests)
-
 other_length : (word text : List ℕ) → leb 2 (length word) ≡ true → leb (length word) 10 ≡ true → (length text < 2) ⊎ (10 < length text) → text ≡ word → ⊥
 other_length word text low high out e =
     let same : length text ≡ length word = ap length e in
-    let least : 2 ≤ length word = at_most 2 (length word) low in
-    let most : length word ≤ 10 = at_most (length word) 10 high in
+    let least : 2 ≤ length word = leb-true 2 (length word) low in
+    let most : length word ≤ 10 = leb-true (length word) 10 high in
     ⊎_elim (λ (h : length text < 2). omega (arith, h, least, same)) (λ (h : 10 < length text). omega (arith, h, most, same)) out
 
 none_within : (words : List (ℕ × List ℕ)) (text : List ℕ) → within words ≡ true → (length text < 2) ⊎ (10 < length text) → kind_among words text ≡ name_kind

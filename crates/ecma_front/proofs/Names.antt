@@ -3,6 +3,7 @@ use Rattle.std.proofs.Common.{◌≡◌, ℕ, Bool, true, false, List, [], Optio
 use Rattle.std.specs.Prelude.{if◌then◌else◌}
 use Rattle.std.specs.Option.{option_map}
 use Rattle.std.specs.Str.{chars}
+use Rattle.std.proofs.lemmas.Option.{same_Some}
 use lib.Utf8.{scalars}
 use Rattle.base_token.specs.declared.place.BytePos.{BytePos}
 use Rattle.base_token.specs.declared.place.LineCol.{LineCol}
@@ -20,9 +21,6 @@ use Rattle.ecma_front.specs.Programs.{setting_of, Spells, TreeReads}
 use Rattle.ecma_front.specs.Names.{NamesAreTold}
 use Rattle.ecma_front.proofs.ReadAgain.{empty_page}
 
-some_is : {A : Type 0} {x y : A} → Some x ≡ Some y → x ≡ y
-some_is e = cc
-
 -- a page that keeps marks says where names stand
 told_by : (o : Options) (t u : Tree) (q : Page) → MarksNames (setting_of o) (is_module o.goal) t q → TreeReads o u (chars q.out) → (pairs : List (BytePos × LineCol)) → (IsPast q → ⊥)
     → (ms : Option Marks) → q.marks ≡ ms → option_map (λ m. m.pairs) ms ≡ Some pairs → NamesAreTold (chars q.out) pairs t u
@@ -31,7 +29,7 @@ told_by o t u q h r pairs past (Some m) e k = by m.reached refl
   where
     by : (end : Option LineCol) → m.reached ≡ end → NamesAreTold (chars q.out) pairs t u
     by None f = absurd (past (m, e, f))
-    by (Some end) f = subst (λ (ps : List (BytePos × LineCol)). NamesAreTold (chars q.out) ps t u) (some_is k) (h m end e f u r)
+    by (Some end) f = subst (λ (ps : List (BytePos × LineCol)). NamesAreTold (chars q.out) ps t u) (same_Some _ _ k) (h m end e f u r)
 
 begins_marks : (o : Options) → o.positions ≡ true → BeginsMarks (page_of o)
 begins_marks o e = ([], rw e refl)

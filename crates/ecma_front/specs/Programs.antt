@@ -3,7 +3,7 @@ use Rattle.std.specs.Prelude.{◌≡◌, ◌⊎◌, ℕ, ◌+◌, ◌-◌, ◌�
 use Rattle.base_token.specs.Dialect.{parts_of}
 use Rattle.base_token.specs.declared.error.Error.{Error}
 use Rattle.lex_pieces.specs.Places.{bytes}
-use Rattle.lex_step_laws.specs.Bounds.{characters_left}
+use Rattle.parse_laws.specs.Bounds.{characters_left}
 use Rattle.tree_spec.specs.Tree.{Tree}
 use Rattle.tree_nesting.specs.Nesting.{nesting}
 use Rattle.grammar_spec.specs.Judge.Early.{early_errors}

@@ -1,7 +1,7 @@
 //! Reading a text as a program.
 ghost use Rattle.std.specs.Prelude.{◌≡◌, ◌↔◌, ◌≤◌, ◌<◌, true, false, drop, length, IfErr, IsErrOf, IsUtf8};
 ghost use Rattle.std.specs.Str.{chars};
-ghost use Rattle.lex_step_laws.specs.Bounds.{characters_left};
+ghost use Rattle.parse_laws.specs.Bounds.{characters_left};
 ghost use Rattle.run_command.specs.Options.{are_refused, is_module};
 ghost use Rattle.ecma_front.specs.Faults.{is_text_fault};
 ghost use Rattle.ecma_front.specs.Formats.{Reads, longest_text};

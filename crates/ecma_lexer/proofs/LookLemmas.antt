@@ -202,9 +202,9 @@ module _ (w : List Error) where
 
 -- ---- what is looked at
 
-made : (s : State) → IsStep s (step_of s).0 (step_of s).1
+pub step_made : (s : State) → IsStep s (step_of s).0 (step_of s).1
 unfolding step_of
-made s = (always_steps s).2
+step_made s = (always_steps s).2
 
 -- A step of the scout hands out what a step of the lexer does, and stands where the lexer would, as far as the innermost context tells.
 scouted : (s new : State) (out : Option Spot) → IsStep (scout_in s) out new
@@ -212,7 +212,7 @@ scouted : (s new : State) (out : Option Spot) → IsStep (scout_in s) out new
 unfolding apart
 scouted s new out h =
     let two = two_taken s.settings.contexts in
-    let k = step_moves [] (take 2 s.settings.contexts) [] s (step_of s).0 (step_of s).1 (two_one (take 2 s.settings.contexts) s.settings.contexts two) (made s) in
+    let k = step_moves [] (take 2 s.settings.contexts) [] s (step_of s).0 (step_of s).1 (two_one (take 2 s.settings.contexts) s.settings.contexts two) (step_made s) in
     let j = one_step (scout_in s) new (apart k.0 k.1 [] (step_of s).1) out (step_of s).0 h k.2 in
     (j.0, k.0, k.1, j.1, k.3 two)
 
@@ -232,7 +232,7 @@ behind_some s spot e = ap (λ o. behind_by step_of o (step_of s).1) (sym e)
 
 moved : (s mid new : State) (ds : List C) (q : List Error) (out : Option Spot) → mid ≡ apart ds q [] s → One ds s.settings.contexts → IsStep mid out new → out ≡ (step_of s).0
 moved s mid new ds q out e a h =
-    let k = step_moves [] ds q s (step_of s).0 (step_of s).1 a (made s) in
+    let k = step_moves [] ds q s (step_of s).0 (step_of s).1 a (step_made s) in
     (one_step (apart ds q [] s) new (apart k.0 k.1 [] (step_of s).1) out (step_of s).0 (subst (λ (x : State). IsStep x out new) e h) k.2).0
 
 -- the token behind the next one, where one comes

@@ -1,10 +1,10 @@
 -- The step of the machine is the step that is made.
 use Rattle.std.proofs.Common.{◌≡◌, Option, Some, None, Result, Ok, Err}
-use Rattle.std.specs.Prelude.{option_map, MatchOption, IfOk, ◌<◌, ◌≤◌}
+use Rattle.std.specs.Prelude.{option_map, MatchOption, IfOk, OnOk, ◌<◌, ◌≤◌}
 use Rattle.base_token.specs.Tokens.{Spot}
 use Rattle.base_token.specs.declared.error.Error.{Error}
 use Rattle.base_token.specs.declared.token.TokenAndSpan.{TokenAndSpan}
-use Rattle.lex_source.specs.Machine.{StepGives, shown_spot}
+use Rattle.lex_source.specs.Machine.{IsPut, StepGives, shown_spot}
 use Rattle.lex_step_laws.specs.States.{State}
 use Rattle.lex_step_laws.specs.Steps.{IsStep}
 use Rattle.lex_step_laws.proofs.StepLemmas.{one_step}
@@ -31,3 +31,18 @@ pub falls : (s new : State) (r : Result (Option TokenAndSpan) Error) → Steps (
     → IfOk r (λ t. MatchOption t (bound new.tokens ≤ bound s.tokens) (λ _. bound new.tokens < bound s.tokens))
 falls s new (Ok t) h = falls_by s new t (bound_falls s new (option_map shown_spot t) h)
 falls s new (Err e) h = tt
+
+-- ---- the same of a token that was put
+
+pub puts : {X E : Type 0} (s new : State) (out : Option Spot) (r : Result X E) → OnOk r (IsStep s out new) → OnOk r (IsPut out (step_of s) new)
+puts s new out (Ok x) h = step_is s new out h
+puts s new out (Err e) h = h
+
+falls_put : (s new : State) (out : Option Spot) → Falls out (bound s.tokens) (bound new.tokens) → MatchOption out (bound new.tokens ≤ bound s.tokens) (λ _. bound new.tokens < bound s.tokens)
+falls_put s new None h = h
+falls_put s new (Some x) h = h
+
+pub puts_fall : {X E : Type 0} (s new : State) (out : Option Spot) (r : Result X E) → OnOk r (IsStep s out new)
+    → OnOk r (MatchOption out (bound new.tokens ≤ bound s.tokens) (λ _. bound new.tokens < bound s.tokens))
+puts_fall s new out (Ok x) h = falls_put s new out (bound_falls s new out h)
+puts_fall s new out (Err e) h = h

@@ -1,27 +1,31 @@
 -- The common way of a step.
 use Rattle.std.proofs.Common.{◌≡◌, ℕ, arith, inl, inr, Bool, true, false, List, [], ◌∷◌, ◌++◌, length, Option, Some, None, Result, Ok, Err, refl, sym, ap, subst, ◌∙◌, IsUtf8}
 use Rattle.std.proofs.lemmas.Bool.{and_parts, eqb-true, false≢true}
-use Rattle.std.specs.Prelude.{◌==◌, ◌&&◌, ◌||◌, not, if◌then◌else◌, bytes_eq}
+use Rattle.std.specs.Prelude.{◌==◌, ◌&&◌, ◌||◌, not, if◌then◌else◌, OnOk, bytes_eq}
 use Rattle.std.specs.Str.{chars}
 use Rattle.base_token.specs.declared.error.Error.{Error}
 use Rattle.base_token.specs.declared.place.Span.{Span}
 use Rattle.base_token.specs.declared.token.Token.{Token}
 use Rattle.base_token.specs.declared.token.TokenAndSpan.{TokenAndSpan}
 use Rattle.base_token.specs.declared.token.TokenKind.{TokenKind}
+use Rattle.base_token.specs.declared.token.TokenKind.TheVariants as kind
 use Rattle.base_token.specs.Kinds.{back_quote_kind, div_assign_kind, div_kind, dollar_brace_kind, left_brace_kind, name_kind, right_brace_kind, template_kind}
 use Rattle.base_token.specs.Tokens.{SpecToken, Spot, bare}
 use Rattle.base_token.specs.TokenViews.{token_kind_number, token_view}
 use Rattle.base_token.specs.Words.{kind_among, kind_of, own_words}
+use Rattle.lex_literal.specs.Strings.{SpellsString}
 use Rattle.lex_pieces.specs.Names.{IsName}
 use Rattle.lex_pieces.specs.Punctuators.{IsPunctuator, punctuators}
 use Rattle.lex_pieces.specs.Trivia.{IsSkipped}
 use Rattle.lex_token.specs.declared.goal.LexicalGoal.TheVariants.{Div}
 use Rattle.lex_token.specs.Lexemes as lexeme
-use Rattle.lex_token.specs.Lexemes.{SpecLexeme, plain, word_spelled}
+use Rattle.lex_token.specs.Lexemes.{IsQuoted, SpecLexeme, plain, string_spelled, word_spelled}
+use Rattle.lex_token.specs.Marks.{is_mark}
 use Rattle.lex_token.proofs.SortLemmas.{all_kinds, among_kinds}
 use Rattle.lex_token.proofs.SpelledLemmas.{encoded}
 use Rattle.lex_source.specs.declared.contexts.TokenContext.{TokenContext}
 use Rattle.lex_source.specs.declared.contexts.TokenContext.TheVariants.{TplQuasi}
+use Rattle.lex_source.specs.Ahead.{is_bare}
 use Rattle.lex_source.specs.Machine.{shown_spot, told}
 use Rattle.lex_step_laws.specs.States.{Last, Slash, Characters, Other, State, again, again_by, behind, closed, contexts_after, goal_of, is_start, last_after, opened, quoted, spot_at, strict_faults, span_at, template_goal}
 use Rattle.lex_step_laws.specs.Steps as steps
@@ -30,10 +34,6 @@ use Rattle.ecma_lexer.specs.Quick.{IsHanded, is_quiet, is_quiet_mark, passed}
 use Rattle.ecma_lexer.specs.Stepping.{Steps}
 
 -- ---- quiet kinds
-
-not_true : (a : Bool) → not a ≡ true → a ≡ false
-not_true true h = absurd (false≢true h)
-not_true false h = refl
 
 last_by : (a b c : Bool) (from : List ℕ) → (not a && (not b && c)) ≡ true → (if a then Characters else (if b then Slash from else Other)) ≡ Other
 last_by true b c from h = absurd (false≢true h)
@@ -143,6 +143,12 @@ pub plain_steps : (s new : State) (line_break : Bool) (from : List ℕ) (r : Res
 plain_steps s new line_break from (Ok t) last empty h k = plain_step s new _ last empty (inl (line_break, from, skipped_is s line_break from last h, k))
 plain_steps s new line_break from (Err e) last empty h k = k
 
+-- the same of a token that was put
+pub plain_puts : {X E : Type 0} (s new : State) (line_break : Bool) (from : List ℕ) (out : Option Spot) (r : Result X E) → s.tokens.last ≡ Other → s.settings.contexts ≡ []
+    → IsSkipped (goal_of s.settings.ctx) false s.tokens.left line_break from → OnOk r (IsRead Div line_break from s out new) → OnOk r (IsStep s out new)
+plain_puts s new line_break from out (Ok t) last empty h k = plain_step s new out last empty (inl (line_break, from, skipped_is s line_break from last h, k))
+plain_puts s new line_break from out (Err e) last empty h k = k
+
 -- and so is a quiet token
 pub quiet_step : (s new : State) (line_break : Bool) (from rest : List ℕ) (x : SpecLexeme) (out : Option Spot) → s.tokens.last ≡ Other → s.settings.contexts ≡ []
     → IsSkipped (goal_of s.settings.ctx) false s.tokens.left line_break from → lexeme.IsOutside Div from x rest → is_quiet x.token.kind ≡ true → x.legacy ≡ None
@@ -170,3 +176,46 @@ pub shown_spot_is : (end : ℕ) (line_break : Bool) (from rest : List ℕ) (toke
 shown_spot_is end line_break from rest token x span view at =
     ap (λ (t : SpecToken). Some (record { token = told t; line_break = line_break; lo = span.lo.0; hi = span.hi.0 })) view
     ∙ ap (λ (p : Span). Some (record { token = told x; line_break = line_break; lo = p.lo.0; hi = p.hi.0 })) at
+
+pub string_stands : (text : List ℕ) (x : SpecLexeme) (rest : List ℕ) → IsQuoted text x rest → lexeme.IsOutside Div text x rest
+string_stands text x rest h = inl (inr (inr h))
+
+-- what reading a string answers is one, by its own text, where no escape in it is one that strict code bars
+pub string_quoted : (units raw text rest : List ℕ) (legacy : Bool) → IsUtf8 raw → legacy ≡ false → SpellsString units legacy text rest → text ≡ chars raw ++ rest
+    → IsQuoted text (string_spelled units raw false) rest
+string_quoted units raw text rest legacy u l h e =
+    (units, chars raw, false, subst (λ (b : Bool). SpellsString units b text rest) l h, e, ap (λ b. string_spelled units b false) (encoded raw u))
+
+-- a kind of a mark tells its token
+pub mark_tells : (k : TokenKind) → is_mark k ≡ true → is_bare k ≡ true
+mark_tells kind.Arrow h = refl
+mark_tells kind.Hash h = refl
+mark_tells kind.At h = refl
+mark_tells kind.Dot h = refl
+mark_tells kind.DotDotDot h = refl
+mark_tells kind.Bang h = refl
+mark_tells kind.LParen h = refl
+mark_tells kind.RParen h = refl
+mark_tells kind.LBracket h = refl
+mark_tells kind.RBracket h = refl
+mark_tells kind.LBrace h = refl
+mark_tells kind.RBrace h = refl
+mark_tells kind.Semi h = refl
+mark_tells kind.Comma h = refl
+mark_tells kind.BackQuote h = refl
+mark_tells kind.Colon h = refl
+mark_tells kind.QuestionMark h = refl
+mark_tells kind.PlusPlus h = refl
+mark_tells kind.MinusMinus h = refl
+mark_tells kind.Tilde h = refl
+mark_tells (kind.BinOp op) h = refl
+mark_tells (kind.AssignOp op) h = refl
+mark_tells (kind.Word word) h = absurd (false≢true h)
+mark_tells kind.Template h = absurd (false≢true h)
+mark_tells kind.Str h = absurd (false≢true h)
+mark_tells kind.Regex h = absurd (false≢true h)
+mark_tells kind.Num h = absurd (false≢true h)
+mark_tells kind.BigInt h = absurd (false≢true h)
+mark_tells kind.Shebang h = absurd (false≢true h)
+mark_tells kind.Error h = absurd (false≢true h)
+mark_tells kind.DollarLBrace h = absurd (false≢true h)

@@ -1,9 +1,9 @@
 -- A step, as the code makes it.
 use Rattle.std.proofs.Common.{◌≡◌, ◌≢◌, ℕ, ◌+◌, ◌-◌, ◌==◌, inl, inr, Bool, true, false, List, [], ◌∷◌, length, IsUtf8, Option, Some, None, Result, Ok, Err, refl, sym, ap, subst, ◌∙◌, arith}
-use Rattle.std.proofs.lemmas.Str.{chars-nil}
 use Rattle.std.proofs.lemmas.Bool.{false≢true}
 use Rattle.std.specs.Prelude.{MatchBool, option_map}
 use Rattle.std.specs.Str.{chars}
+use Rattle.std.proofs.lemmas.Str.{chars-nil}
 use Rattle.base_token.specs.declared.error.Error.{Error}
 use Rattle.base_token.specs.declared.token.TokenAndSpan.{TokenAndSpan}
 use Rattle.base_token.specs.Kinds.{shebang_kind}
@@ -27,8 +27,8 @@ use Rattle.ecma_lexer.specs.declared.last.Last.TheVariants as l
 use Rattle.ecma_lexer.specs.Last.{last_view}
 use Rattle.ecma_lexer.specs.Stepping.{IsTaken, Steps}
 
-pub nothing_left : chars [] ≡ []
-nothing_left = chars-nil
+-- an empty text has no characters
+pub ruleset nothing_left = (chars-nil)
 
 pub read_end : (goal : LexicalGoal) (line_break : Bool) (from : List ℕ) (s new : State) → Ends goal from → new ≡ spec.ended s → IsRead goal line_break from s None new
 read_end goal line_break from s new e n = inr (inr (e, refl, n))

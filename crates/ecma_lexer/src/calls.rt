@@ -12,7 +12,8 @@ ghost use Rattle.ecma_lexer.specs.Machine.{lexer_machine};
 use crate::lexer::Lexer;
 use base_token::{BytePos, Context, Error, EsVersion, Syntax, TokenAndSpan};
 use lex_pieces::place::out_of_memory;
-use lex_source::{Look, TokenContexts, Tokens};
+use lex_source::{Ahead, Look, TokenContexts, Tokens};
+use std::alloc::AllocError;
 
 impl<'a> Tokens<'a> for Lexer<'a> {
     ghost State = { Text };
@@ -26,6 +27,12 @@ impl<'a> Tokens<'a> for Lexer<'a> {
     #[tactic(auto, using(crate::proofs::MachineLemmas::gives))]
     fn next(&mut self) -> Result<Option<TokenAndSpan<'a>>, Error> {
         Lexer::next(self)
+    }
+
+    #[inline(always)]
+    #[tactic(auto, using(crate::proofs::MachineLemmas::puts))]
+    fn next_into(&mut self, ahead: &mut Ahead<'a>) -> Result<(), AllocError> {
+        Lexer::next_into(self, ahead)
     }
 
     fn look(&self, at: Look) -> Result<Option<TokenAndSpan<'a>>, Error> {

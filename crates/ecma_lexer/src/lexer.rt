@@ -1,8 +1,8 @@
 //! The lexer of a text.
-ghost use Rattle.std.specs.Prelude.{◌≡◌, ◌<◌, ◌+◌, ◌^◌, false, is_err, length, option_map, true, IfErr, IfOk, IsErr};
+ghost use Rattle.std.specs.Prelude.{◌≡◌, ◌<◌, ◌+◌, ◌^◌, false, is_err, length, option_map, true, IfErr, IfOk, IsErr, OnOk};
 
 use crate::last::Last;
-use crate::quick::quiet_mark;
+use crate::quick::{quiet_mark, quiet_string};
 use crate::step::goal_of;
 use crate::unread::Unread;
 use base_token::{BytePos, Error, EsVersion, Syntax, TokenAndSpan};
@@ -10,7 +10,7 @@ use lex_comments::Comments;
 use lex_pieces::bare_name;
 use lex_pieces::place::out_of_memory;
 use lex_pieces::trivia::skip_trivia;
-use lex_source::Settings;
+use lex_source::{Ahead, Settings};
 use std::alloc::{AllocError, Global};
 
 /// A text that is read token after token.
@@ -117,6 +117,42 @@ impl<'a> Lexer<'a> {
             return self.hand_mark(line_break, kind, from, rest);
         }
         self.next_behind(line_break, from)
+    }
+
+    /// The same, where the token is made where it waits.
+    ///
+    /// # Errors
+    ///
+    /// Want of memory alone, and then from then on.
+    #[inline(never)]
+    pub fn next_into(&mut self, ahead: &mut Ahead<'a>) -> Result<(), AllocError>
+        ensures step { OnOk result (IsStep (state_in self.old) ahead.new (state_in self.new)) }
+        ensures full { is_full self.new ≡ is_err result }
+        ensures stays_full { is_full self.old ≡ true → IsErr result }
+        ensures comments { OnOk result (KeepsAsAsked (keeps_comments self.old) (state_in self.old) ahead.new (comments_in self.old) (comments_in self.new)) }
+        ensures keeps { keeps_comments self.new ≡ keeps_comments self.old }
+        ensures told { SameTold (settings_in self.old.settings) (settings_in self.new.settings) }
+    {
+        if self.full || self.keeps || !self.is_outside() {
+            return self.put_any(ahead);
+        }
+        let goal = goal_of(self.settings.ctx);
+        let Ok((line_break, from)) = skip_trivia(self.text.end, goal, false, self.text.rest) else {
+            return self.put_any(ahead);
+        };
+        if let Some((name, rest)) = bare_name(from) {
+            self.put_word(line_break, name, from, rest, ahead);
+            return Ok(());
+        }
+        if let Some((kind, rest)) = quiet_mark(from) {
+            self.put_mark(line_break, kind, from, rest, ahead);
+            return Ok(());
+        }
+        if let Some(literal) = quiet_string(self.alloc, from, self.text.end) {
+            self.put_string(line_break, literal, from, ahead);
+            return Ok(());
+        }
+        self.put_behind(line_break, from, ahead)
     }
 
     /// A lexer that stands where this one stands, with the same comments. The text is shared.

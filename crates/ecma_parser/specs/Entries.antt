@@ -1,11 +1,11 @@
 -- A parser as a user holds it.
-use Rattle.std.specs.Prelude.{◌≡◌, ℕ, true, List, [], Option, None, Some, option_map, Result, IfOk, if◌then◌else◌}
+use Rattle.std.specs.Prelude.{◌≡◌, ℕ, true, List, [], Option, None, Some, Result, IfOk, if◌then◌else◌}
 use Rattle.base_token.specs.declared.context.Context.{Context}
 use Rattle.base_token.specs.declared.error.Error.{Error}
 use Rattle.base_token.specs.declared.syntax.EsSyntax.{EsSyntax}
 use Rattle.base_token.specs.Dialect.{parts_of}
 use Rattle.lex_source.specs.Machine as tokens
-use Rattle.lex_source.specs.Machine.{Source, shown_spot}
+use Rattle.lex_source.specs.Machine.{Source}
 use Rattle.lex_other_sources.specs.Rewinding.{back_in}
 use Rattle.lex_other_sources.specs.declared.rewinding.Rewinding.{Rewinding}
 use Rattle.grammar_spec.specs.Reader.Source.{State}
@@ -48,7 +48,7 @@ stood state e = state_of (λ r. state r.input) e.reading
 
 -- the token that was read ahead waits, and the source behind it is told this code
 abbrev pub waiting : {I S : Type 0} → (I → Source S) → Context → Entries (Parser (Rewinding I)) → State (Cursor S)
-waiting state ctx e = record { source = record { first = option_map shown_spot e.reading.ahead.token; behind = Some (told_of ctx (source_in state e)); last = e.reading.last.0 }; commas = [] }
+waiting state ctx e = record { source = record { first = e.reading.ahead; behind = Some (told_of ctx (source_in state e)); last = e.reading.last.0 }; commas = [] }
 
 -- in front of the next token of a source that is told this code, behind one that ended there
 abbrev pub ahead_of : {S : Type 0} → tokens.Machine S → Context → ℕ → Source S → State (Cursor S)

@@ -9,13 +9,12 @@ ghost use Rattle.ecma_lexer.specs.Lexer.{state_in};
 ghost use Rattle.parse_state.specs.Answers.{IsMemory};
 ghost use Rattle.parse_state.specs.Cursors.{told_of};
 
-use base_token::{BytePos, Context, Error, EsVersion, Syntax, TokenAndSpan};
+use base_token::{BytePos, Context, Error, EsVersion, Syntax};
 use ecma_lexer::Lexer;
 use lex_other_sources::Rewinding;
 use lex_source::Tokens;
 use lex_source::settings::out_of_memory;
-use parse_state::Failure;
-use parse_state::ahead::Ahead;
+use parse_state::{Ahead, Failure};
 use std::alloc::{AllocError, Global};
 use std::mem;
 
@@ -62,14 +61,15 @@ impl<'a> Entries<Reading<'a, Lexer<'a>>> {
     }
 
     /// How many tokens may come at most, the one among them that was read ahead.
-    #[tactic(auto, unfolding(parse_state::specs::Cursors::stream_of))]
+    #[tactic(auto, using(parse_state::proofs::Firsts::ones), unfolding(parse_state::specs::Cursors::stream_of))]
     pub fn may_come(&self) -> u64
         ensures { result ≡ bound (stream_of lexer_machine) (stood state_in self.now) }
     {
         let behind = self.reading.input.input().may_come();
-        match self.reading.ahead.token {
-            Some(_) => behind + 1,
-            None => behind,
+        if self.reading.ahead.is_none() {
+            behind
+        } else {
+            behind + 1
         }
     }
 }
@@ -184,10 +184,9 @@ impl<'a, I: Tokens<'a> + Drop> Entries<Reading<'a, I>> {
         ensures full { IfErr result IsMemory }
     {
         self.tell(ctx, keeps);
-        let Ok(token) = self.reading.input.next() else {
-            return Err(Failure::Memory);
-        };
-        self.reading.ahead = Ahead::new(token);
+        let mut ahead = Ahead::new(None);
+        self.reading.input.next_into(&mut ahead)?;
+        self.reading.ahead = ahead;
         self.started = true;
         Ok(())
     }
@@ -230,40 +229,14 @@ impl<'a, I: Tokens<'a> + Drop> Entries<Reading<'a, I>> {
     ///
     /// Want of memory.
     fn copied(&self) -> Result<(Ahead<'a>, Vec<u32>, Vec<Error>), AllocError>
-        ensures ahead { IfOk result (λ x. option_map shown_spot x.0.token
-            ≡ option_map shown_spot self.now.reading.ahead.token) }
+        ensures ahead { IfOk result (λ x. x.0 ≡ self.now.reading.ahead) }
         ensures commas { IfOk result (λ x. x.1.items ≡ self.now.reading.commas.items) }
         ensures faults { IfOk result (λ x. x.2.items ≡ self.now.faults.items) }
     {
         let alloc = self.reading.alloc;
-        let ahead = copy_of(&self.reading.ahead)?;
+        let ahead = self.reading.ahead.try_clone()?;
         let commas = Vec::from_slice(alloc, self.reading.commas.as_slice())?;
         let faults = Vec::from_slice(alloc, self.faults.as_slice())?;
         Ok((ahead, commas, faults))
-    }
-}
-
-/// A token once more.
-///
-/// # Errors
-///
-/// Want of memory, for a name, a string or a number that has a text of its own.
-fn clone_token<'a>(token: &TokenAndSpan<'a>) -> Result<TokenAndSpan<'a>, AllocError>
-    ensures { IfOk result (λ t. shown_spot t ≡ shown_spot token.now) }
-{
-    token.clone()
-}
-
-/// The token that comes once more.
-///
-/// # Errors
-///
-/// Want of memory.
-fn copy_of<'a>(ahead: &Ahead<'a>) -> Result<Ahead<'a>, AllocError>
-    ensures { IfOk result (λ x. option_map shown_spot x.token ≡ option_map shown_spot ahead.now.token) }
-{
-    match &ahead.token {
-        Some(token) => Ok(Ahead::new(Some(clone_token(token)?))),
-        None => Ok(Ahead::new(None)),
     }
 }

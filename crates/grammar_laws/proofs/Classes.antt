@@ -93,7 +93,7 @@ module _ (inner : Inner Input) (good : Sound inner) where
       by_key false y = (refl, subst (λ (o : Option FunctionParts). ClassMethod is_key (plain c) s (child k (λ u. Produces k u)) (child f (λ u. Produces f u)) o op st ts r) (sym q) (m, plain_key k e y, n, t, h, w, z))
 
   class_method_sure : (c : Code) (start : State Input) (st g a : Bool) (k : Tree) (ms mh : Input) (s : State Input) → Static st (plain c) (seen start) ms → MethodHead g a (plain c) ms mh → (is_private k ≡ true) ⊎ (is_key k ≡ true) → Produces k (plain c) mh (seen s)
-      → Sure s.commas (class_method_by lm inner c start st g a k s) (GotMember c start)
+      → Sure s.commas (class_method_by lm inner c (lo (seen start)) st g a k s) (GotMember c start)
   unfolding class_method_by
   class_method_sure c start st g a k ms mh s t h e key = then_sure s.commas (function_by lm inner c (lo (seen start)) g a s) _ _ _ (function_sure inner good c (lo (seen start)) g a s) (λ f w. let p = span (lo (seen start)) f.1.source.last in
       if_sure f.1.commas (constructs k && (not st && (not g && not a))) _ _ _
@@ -106,7 +106,7 @@ module _ (inner : Inner Input) (good : Sound inner) where
       (λ n. done (method_tree lm inner p k f.0 plain_method st, f.1) (GotMember c start)
       (method_made c p k f.0 (record { span = p; generator = g; async = a; count = w.0 }) plain_method st (seen start) ms (seen f.1) e w.1 n t (mh, seen s, h, key, w.2) refl refl)))
 
-  getter_sure : (c : Code) (start : State Input) (st : Bool) (s : State Input) → Static st (plain c) (seen start) (seen s) → kind (seen s) ≡ get_kind → Sure s.commas (class_getter lm inner c start st s) (GotMember c start)
+  getter_sure : (c : Code) (start : State Input) (st : Bool) (s : State Input) → Static st (plain c) (seen start) (seen s) → kind (seen s) ≡ get_kind → Sure s.commas (class_getter lm inner c (lo (seen start)) st s) (GotMember c start)
   unfolding class_getter
   getter_sure c start st s t e = then_sure s.commas (class_key lm inner c (next s)) _ _ _ (class_key_sure c (next s)) (λ k q. eat_sure left_paren_kind k.1 _ _ (λ o. eat_sure right_paren_kind (next k.1) _ _ (λ u.
       then_sure k.1.commas (inner.body (in_body false false c) (next (next k.1))) _ _ _ (good.body (in_body false false c) (next (next k.1))) (λ b w. let p = span (lo (seen start)) b.1.source.last in
@@ -125,7 +125,7 @@ module _ (inner : Inner Input) (good : Sound inner) where
       not_plain : (k : Tree) (st : Bool) → (constructs k && (not st && false)) ≡ false
       not_plain k st = ap (λ z. constructs k && z) (and_false (not st)) ∙ and_false (constructs k)
 
-  setter_member_sure : (c : Code) (start : State Input) (st : Bool) (s : State Input) → Static st (plain c) (seen start) (seen s) → kind (seen s) ≡ set_kind → Sure s.commas (class_setter lm inner c start st s) (GotMember c start)
+  setter_member_sure : (c : Code) (start : State Input) (st : Bool) (s : State Input) → Static st (plain c) (seen start) (seen s) → kind (seen s) ≡ set_kind → Sure s.commas (class_setter lm inner c (lo (seen start)) st s) (GotMember c start)
   unfolding class_setter
   setter_member_sure c start st s t e = then_sure s.commas (class_key lm inner c (next s)) _ _ _ (class_key_sure c (next s)) (λ k q. then_sure k.1.commas (setter_parameter lm inner (in_body false false c) k.1) _ _ _ (setter_sure inner good (in_body false false c) k.1) (λ x h.
       then_sure x.1.commas (inner.body (in_body false false c) x.1) _ _ _ (good.body (in_body false false c) x.1) (λ b w. let p = span (lo (seen start)) b.1.source.last in
@@ -144,12 +144,12 @@ module _ (inner : Inner Input) (good : Sound inner) where
       not_plain : (k : Tree) (st : Bool) → (constructs k && (not st && false)) ≡ false
       not_plain k st = ap (λ z. constructs k && z) (and_false (not st)) ∙ and_false (constructs k)
 
-  accessor_sure : (c : Code) (start : State Input) (st : Bool) (s : State Input) → Static st (plain c) (seen start) (seen s) → c.syntax.auto_accessors ≡ true → kind (seen s) ≡ accessor_kind → brk (seen (next s)) ≡ false → Sure s.commas (accessor_by lm inner c start st s) (GotMember c start)
+  accessor_sure : (c : Code) (start : State Input) (st : Bool) (s : State Input) → Static st (plain c) (seen start) (seen s) → c.syntax.auto_accessors ≡ true → kind (seen s) ≡ accessor_kind → brk (seen (next s)) ≡ false → Sure s.commas (accessor_by lm inner c (lo (seen start)) st s) (GotMember c start)
   unfolding accessor_by
   accessor_sure c start st s t on e n = then_sure s.commas (class_key lm inner c (next s)) _ _ _ (class_key_sure c (next s)) (λ k q. then_sure k.1.commas (field_value lm inner c key_end k.1) _ _ _ (value_sure c key_end k.1) (λ v h.
       done (auto_accessor (span (lo (seen start)) v.1.source.last) k.0 v.0 st none, v.1) (GotMember c start) (refl, (seen s, seen (next s), seen k.1, on, tt, t, (e, soft c accessor_kind s e and_false, tt, refl), n, (any_key k.0 q.0, q.1), h, refl))))
 
-  field_sure : (c : Code) (start : State Input) (st : Bool) (s : State Input) → Static st (plain c) (seen start) (seen s) → Sure s.commas (field_or_method lm inner c start st s) (GotMember c start)
+  field_sure : (c : Code) (start : State Input) (st : Bool) (s : State Input) → Static st (plain c) (seen start) (seen s) → Sure s.commas (field_or_method lm inner c (lo (seen start)) st s) (GotMember c start)
   unfolding field_or_method
   field_sure c start st s t = then_sure s.commas (class_key lm inner c s) _ _ _ (class_key_sure c s) (λ k q. test_sure k.1.commas (kind (seen k.1)) left_paren_kind _ _ _
       (λ _. class_method_sure c start st false false k.0 (seen s) (seen s) k.1 t (seen s, refl, refl) q.0 q.1)
@@ -157,12 +157,12 @@ module _ (inner : Inner Input) (good : Sound inner) where
       (λ z. done (private_prop (span (lo (seen start)) v.1.source.last) k.0 v.0 st none, v.1) (GotMember c start) (refl, (seen s, seen k.1, tt, z, t, q.1, h, refl)))
       (λ z. done (class_prop (span (lo (seen start)) v.1.source.last) k.0 v.0 st none, v.1) (GotMember c start) (refl, (seen s, seen k.1, tt, plain_key k.0 q.0 z, t, q.1, h, refl))))))
 
-  generator_sure : (c : Code) (start : State Input) (st a : Bool) (ms : Input) (s : State Input) → Static st (plain c) (seen start) ms → Async a (plain c) ms (seen s) → Sure s.commas (generator_member lm inner c start st a s) (GotMember c start)
+  generator_sure : (c : Code) (start : State Input) (st a : Bool) (ms : Input) (s : State Input) → Static st (plain c) (seen start) ms → Async a (plain c) ms (seen s) → Sure s.commas (generator_member lm inner c (lo (seen start)) st a s) (GotMember c start)
   unfolding generator_member
   generator_sure c start st a ms s t h = star_sure inner c s _ _ (λ g r q z. at_commas s.commas r.commas _ (GotMember c start) q
       (then_sure r.commas (class_key lm inner c r) _ _ _ (class_key_sure c r) (λ k w. class_method_sure c start st g a k.0 ms (seen r) k.1 t (seen s, h, z) w.0 w.1)))
 
-  member_rest_sure : (c : Code) (start : State Input) (st : Bool) (s : State Input) → Static st (plain c) (seen start) (seen s) → Sure s.commas (member_rest lm inner c start st s) (GotMember c start)
+  member_rest_sure : (c : Code) (start : State Input) (st : Bool) (s : State Input) → Static st (plain c) (seen start) (seen s) → Sure s.commas (member_rest lm inner c (lo (seen start)) st s) (GotMember c start)
   unfolding member_rest
   member_rest_sure c start st s t = test_sure s.commas (kind (seen s)) mul_kind _ _ _ (λ _. generator_sure c start st false (seen s) s t refl) (λ _.
       if_sure s.commas (is_async_head lm inner s) _ _ _ (λ z. let b = and_parts (eqb (kind (seen s)) async_kind) ((starts_key (kind2 (seen s)) || eqb (kind2 (seen s)) mul_kind) && not (brk2 (seen s))) z in
@@ -178,7 +178,7 @@ module _ (inner : Inner Input) (good : Sound inner) where
   static_sure : (c : Code) (s : State Input) → Sure s.commas (static_by lm inner c s) (GotMember c s)
   unfolding static_by
   static_sure c s = word_sure c static_kind s _ _ (λ e b. test_sure s.commas (kind (seen (next s))) left_brace_kind _ _ _
-      (λ z. then_sure s.commas (block_rest lm inner (in_static c) (next s) (next (next s))) _ _ _ (block_rest_sure inner good Closes (in_static c) (λ ts r t. t) (next s) (next (next s))) (λ x h.
+      (λ z. then_sure s.commas (block_rest lm inner (in_static c) (lo (seen (next s))) (next (next s))) _ _ _ (block_rest_sure inner good Closes (in_static c) (λ ts r t. t) (next s) (next (next s))) (λ x h.
       done (static_block (span (lo (seen s)) x.1.source.last) x.0, x.1) (GotMember c s) (list_is Closes (in_static c) (span (lo (seen (next s))) (seen x.1).last) (seen (next (next s))) (seen x.1)
       (λ y. (is_member (static_block (span (lo (seen s)) x.1.source.last) y) ≡ true) × Produces (static_block (span (lo (seen s)) x.1.source.last) y) (plain c) (seen s) (seen x.1))
       (λ p ss q k. (refl, (seen (next s), seen (next (next s)), (e, b, tt, refl), (z, tt, refl), k, q, refl))) x.0 h)))
@@ -193,7 +193,7 @@ module _ (inner : Inner Input) (good : Sound inner) where
       test_sure s.commas (kind (seen s)) semicolon_kind _ _ _ (λ e. done (go_on (ms ++ empty_stmt (first_span (seen s)) ∷ []), next s) (StepSure (Before (Parted c) ts) (All_read (Parted c) ts)) (one_more (Parted c) ts ms s (empty_stmt (first_span (seen s))) (next s) b (λ ys r k. (seen (next s), (refl, ((e, tt, refl), refl)), k)))) (λ _.
       if_sure s.commas (starts_static lm inner s) _ _ _
       (λ _. then_sure s.commas (static_by lm inner c s) _ _ _ (static_sure c s) (λ x h. done (go_on (ms ++ x.0 ∷ []), x.1) (StepSure (Before (Parted c) ts) (All_read (Parted c) ts)) (one_more (Parted c) ts ms s x.0 x.1 b (λ ys r k. (seen x.1, h, k)))))
-      (λ _. then_sure s.commas (member_rest lm inner c s false s) _ _ _ (member_rest_sure c s false s refl) (λ x h. done (go_on (ms ++ x.0 ∷ []), x.1) (StepSure (Before (Parted c) ts) (All_read (Parted c) ts)) (one_more (Parted c) ts ms s x.0 x.1 b (λ ys r k. (seen x.1, h, k)))))))
+      (λ _. then_sure s.commas (member_rest lm inner c (lo (seen s)) false s) _ _ _ (member_rest_sure c s false s refl) (λ x h. done (go_on (ms ++ x.0 ∷ []), x.1) (StepSure (Before (Parted c) ts) (All_read (Parted c) ts)) (one_more (Parted c) ts ms s x.0 x.1 b (λ ys r k. (seen x.1, h, k)))))))
 
   members_sure : (c : Code) (whole : ℕ) (h : Tree) (m : Input) (s : State Input) → By (is_absent h) (m ≡ seen s) (Heritage (plain c) (child h (λ y. Produces h y)) m (seen s)) → Sure s.commas (members_by lm inner c whole h s)
       (λ x. (class_span x.0 ≡ Some (span whole (seen x.1).last)) × Produces x.0 (plain c) m (seen x.1))

@@ -152,7 +152,7 @@ module _ (inner : Inner Input) (good : Sound inner) where
   abbrev pub Heads : Bool → Code → State Input → List Tree → State Input → Type 0
   Heads async c start ps s = (m : Input) × Async async (plain c) (seen start) m × ArrowParameters (plain c) (children (pack ps)) m (seen s)
 
-  pub arrow_sure : (c : Code) (start : State Input) (async : Bool) (ps : List Tree) (s : State Input) → Heads async c start ps s → arrows lm inner s ≡ true → Sure s.commas (arrow_by lm inner c start async ps s) (Made c start)
+  pub arrow_sure : (c : Code) (start : State Input) (async : Bool) (ps : List Tree) (s : State Input) → Heads async c start ps s → arrows lm inner s ≡ true → Sure s.commas (arrow_by lm inner c (lo (seen start)) async ps s) (Made c start)
   unfolding arrow_by
   arrow_sure c start async ps s h a = let b = and_parts (eqb (kind (seen s)) arrow_kind) (not (brk (seen s))) a in let e = eqb-true (kind (seen s)) arrow_kind b.0 in let n = not-true (brk (seen s)) b.1 in
       test_sure s.commas (kind (seen (next s))) left_brace_kind _ _ _
@@ -173,7 +173,7 @@ module _ (inner : Inner Input) (good : Sound inner) where
   -- ---- parentheses
 
   pub paren_sure : (c : Code) (l : ℕ) (start : State Input) (xs : Elements) (s : State Input) → kind (seen start) ≡ left_paren_kind → Elems (Element s.commas (with_in c)) false (plain (with_in c)) right_paren_kind xs.comma false xs.items (seen (next start)) (seen s)
-      → ((ps : List Tree) → IsParams c (seen (next start)) (seen s) ps → Heads false c start ps s) → Sure s.commas (group_end lm inner c l start (next start) xs s) (Made c start)
+      → ((ps : List Tree) → IsParams c (seen (next start)) (seen s) ps → Heads false c start ps s) → Sure s.commas (group_end lm inner c l (lo (seen start)) (lo (seen (next start))) xs s) (Made c start)
   unfolding group_end
   paren_sure c l start xs s e h f = if_sure s.commas (heads_params lm inner l xs s) _ _ _
       (λ a. then_placed _ s.commas (params_of lm inner s.commas xs) _ (IsParams c (seen (next start)) (seen s)) _ (params_hold inner c s.commas xs (seen (next start)) (seen s) h) (λ ps q. arrow_sure c start false ps s (f ps q) (heads_arrow l xs s a)))

@@ -39,14 +39,14 @@ module _ (inner : Inner Input) (good : Sound inner) where
     block_step_sure ts ss s b = test_sure s.commas (kind (seen s)) right_brace_kind _ _ _ (λ e. done (finished ss, next s) (StepSure (Before (Statements close c) ts) (All_read (Statements close c) ts)) (at_end (Statements close c) ts ss s (next s) b (closes (seen s) (seen (next s)) (e, tt, refl)))) (λ _.
         then_sure s.commas (inner.stmt (in_list c) s) _ _ _ (good.stmt (in_list c) s) (λ t h. done (go_on (ss ++ t.0 ∷ []), t.1) (StepSure (Before (Statements close c) ts) (All_read (Statements close c) ts)) (one_more (Statements close c) ts ss s t.0 t.1 b (λ ys r k. (seen t.1, h.0, h.1, k)))))
 
-    pub block_rest_sure : (start s : State Input) → Sure s.commas (block_rest lm inner c start s) (λ x. IsList close c (span (lo (seen start)) (seen x.1).last) (seen s) (seen x.1) x.0)
+    pub block_rest_sure : (start s : State Input) → Sure s.commas (block_rest lm inner c (lo (seen start)) s) (λ x. IsList close c (span (lo (seen start)) (seen x.1).last) (seen s) (seen x.1) x.0)
     unfolding block_rest
     block_rest_sure start s = then_sure s.commas (iterate _ (block_step lm inner c) [] s) _ _ _ (loop_sure (block_step lm inner c) (Before (Statements close c) (seen s)) (All_read (Statements close c) (seen s)) (λ x r b. block_step_sure (seen s) x r b) [] s (at_start (Statements close c) (seen s) s refl))
         (λ ss h. done (block_stmt (span (lo (seen start)) ss.1.source.last) (pack ss.0), ss.1) _ (refl, h.so))
 
   pub block_sure : (c : Code) (s : State Input) → Sure s.commas (block_by lm inner c s) (λ x. (is_block x.0 ≡ true) × (is_item x.0 ≡ true) × Produces x.0 (plain c) (seen s) (seen x.1))
   unfolding block_by
-  block_sure c s = eat_sure left_brace_kind s _ _ (λ e. sure_map s.commas (block_rest lm inner c s (next s)) _ _ (block_rest_sure ClosesBlock c (λ ts r t. t) s (next s)) (λ x h.
+  block_sure c s = eat_sure left_brace_kind s _ _ (λ e. sure_map s.commas (block_rest lm inner c (lo (seen s)) (next s)) _ _ (block_rest_sure ClosesBlock c (λ ts r t. t) s (next s)) (λ x h.
       list_is ClosesBlock c (span (lo (seen s)) (seen x.1).last) (seen (next s)) (seen x.1) (λ b. (is_block b ≡ true) × (is_item b ≡ true) × Produces b (plain c) (seen s) (seen x.1)) (λ p ss q k. (refl, refl, (seen (next s), (e, tt, refl), k, q))) x.0 h))
 
   -- ---- bodies, whose directives may turn them strict

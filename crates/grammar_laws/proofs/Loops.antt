@@ -101,24 +101,24 @@ module _ (inner : Inner Input) (good : Sound inner) where
   abbrev MadeOf : Code → State Input → Bool → Tree → State Input → Type 0
   MadeOf c start w l s = (p : Span) (e b : Tree) (r : Input) → p ≡ span (lo (seen start)) r.last → Over (plain c) of_kind assignment_level (child e (λ y. Produces e y)) (child b (λ y. Produces b y)) (seen s) r → Produces (for_of_stmt p w l e b) (plain c) (seen start) r
 
-  for_rest_sure : (c : Code) (start : State Input) (i : Tree) (s : State Input) → MadeFor c start i s → Sure s.commas (for_rest lm inner c start i s) (GotStmt c start)
+  for_rest_sure : (c : Code) (start : State Input) (i : Tree) (s : State Input) → MadeFor c start i s → Sure s.commas (for_rest lm inner c (lo (seen start)) i s) (GotStmt c start)
   unfolding for_rest
   for_rest_sure c start i s f = eat_sure semicolon_kind s _ _ (λ e. then_sure s.commas (clause_by lm inner c semicolon_kind (next s)) _ _ _ (clause_sure c semicolon_kind (next s)) (λ t h. then_sure t.1.commas (clause_by lm inner c right_paren_kind t.1) _ _ _ (clause_sure c right_paren_kind t.1) (λ u k.
       then_sure u.1.commas (sub_by lm inner c false u.1) _ _ _ (sub_sure inner good c u.1) (λ b j. done (for_stmt (span (lo (seen start)) b.1.source.last) i t.0 u.0 b.0, b.1) (GotStmt c start)
       (refl, f (span (lo (seen start)) b.1.source.last) t.0 u.0 b.0 (seen (next s)) (seen b.1) refl (e, tt, refl) (seen t.1, seen u.1, h, k, j))))))
 
-  in_rest_sure : (c : Code) (start : State Input) (l : Tree) (s : State Input) → MadeIn c start l s → Sure s.commas (in_rest lm inner c start l s) (GotStmt c start)
+  in_rest_sure : (c : Code) (start : State Input) (l : Tree) (s : State Input) → MadeIn c start l s → Sure s.commas (in_rest lm inner c (lo (seen start)) l s) (GotStmt c start)
   unfolding in_rest over_rest
   in_rest_sure c start l s f = word_sure c in_kind s _ _ (λ e w. then_sure s.commas (inner.expr c expression_level (next s)) _ _ _ (good.expr c expression_level (next s) (omega arith)) (λ x h. eat_sure right_paren_kind x.1 _ _ (λ z. then_sure x.1.commas (sub_by lm inner c false (next x.1)) _ _ _ (sub_sure inner good c (next x.1)) (λ b j.
       done (for_in_stmt (span (lo (seen start)) b.1.source.last) l x.0 b.0, b.1) (GotStmt c start) (refl, f (span (lo (seen start)) b.1.source.last) x.0 b.0 (seen b.1) refl (seen (next s), seen x.1, seen (next x.1), (e, w, tt, refl), (h.0, h.1.produced), (z, tt, refl), j))))))
 
-  of_rest_sure : (c : Code) (start : State Input) (w : Bool) (l : Tree) (s : State Input) → MadeOf c start w l s → Sure s.commas (of_rest lm inner c start w l s) (GotStmt c start)
+  of_rest_sure : (c : Code) (start : State Input) (w : Bool) (l : Tree) (s : State Input) → MadeOf c start w l s → Sure s.commas (of_rest lm inner c (lo (seen start)) w l s) (GotStmt c start)
   unfolding of_rest over_rest
   of_rest_sure c start a l s f = word_sure c of_kind s _ _ (λ e w. then_sure s.commas (inner.expr c assignment_level (next s)) _ _ _ (good.expr c assignment_level (next s) (omega arith)) (λ x h. eat_sure right_paren_kind x.1 _ _ (λ z. then_sure x.1.commas (sub_by lm inner c false (next x.1)) _ _ _ (sub_sure inner good c (next x.1)) (λ b j.
       done (for_of_stmt (span (lo (seen start)) b.1.source.last) a l x.0 b.0, b.1) (GotStmt c start) (refl, f (span (lo (seen start)) b.1.source.last) x.0 b.0 (seen b.1) refl (seen (next s), seen x.1, seen (next x.1), (e, w, tt, refl), (h.0, h.1.produced), (z, tt, refl), j))))))
 
   head_rest_sure : (c : Code) (start : State Input) (awaits : Bool) (ds : List Tree) (l : Tree) (s : State Input) → (OneBare (children (pack ds)) → MadeOf c start awaits l s) → (awaits ≡ false → OneBare (children (pack ds)) → MadeIn c start l s) → (awaits ≡ false → MadeFor c start l s)
-      → Sure s.commas (head_rest lm inner c start awaits ds l s) (GotStmt c start)
+      → Sure s.commas (head_rest lm inner c (lo (seen start)) awaits ds l s) (GotStmt c start)
   unfolding head_rest
   head_rest_sure c start awaits ds l s f g h = test_sure s.commas (kind (seen s)) of_kind _ _ _ (λ _. only_sure _ s.commas (one_bare lm inner ds) _ _ (λ e. of_rest_sure c start awaits l s (f (one_bare_is inner ds e)))) (λ _.
       if_sure s.commas awaits _ _ _ (λ _. record { so = tt }) (λ a. test_sure s.commas (kind (seen s)) in_kind _ _ _ (λ _. only_sure _ s.commas (one_bare lm inner ds) _ _ (λ e. in_rest_sure c start l s (g a (one_bare_is inner ds e)))) (λ _. for_rest_sure c start l s (h a))))
@@ -127,7 +127,7 @@ module _ (inner : Inner Input) (good : Sound inner) where
   opened : (c : Code) (start : State Input) (awaits : Bool) (s : Input) → awaits ≡ false → ForAwaitOpen awaits (plain c) (seen start) s → ForOpen (plain c) (seen start) s
   opened c start awaits s e h = subst (λ a. ForAwaitOpen a (plain c) (seen start) s) e h
 
-  variables_sure : (c : Code) (start : State Input) (awaits : Bool) (s : State Input) → ForAwaitOpen awaits (plain c) (seen start) (seen s) → is_var_word (kind (seen s)) ≡ true → Sure s.commas (for_variables lm inner c start awaits s) (GotStmt c start)
+  variables_sure : (c : Code) (start : State Input) (awaits : Bool) (s : State Input) → ForAwaitOpen awaits (plain c) (seen start) (seen s) → is_var_word (kind (seen s)) ≡ true → Sure s.commas (for_variables lm inner c (lo (seen start)) awaits s) (GotStmt c start)
   unfolding for_variables
   variables_sure c start awaits s o v = word_sure c (kind (seen s)) s _ _ (λ e b. then_sure s.commas (declarators_by lm inner (without_in c) (next s)) _ _ _ (declarators_sure inner good (without_in c) (next s)) (λ ds h.
       let k : Bindings (without_in (plain c)) (kind (seen s)) (children (pack ds.0)) (seen s) (seen ds.1) = (seen (next s), v, (refl, b, tt, refl), h) in
@@ -138,7 +138,7 @@ module _ (inner : Inner Input) (good : Sound inner) where
 
   using_sure : (c : Code) (start : State Input) (awaits : Bool) (own : State Input) (waits : Bool) (s : State Input) → ForAwaitOpen awaits (plain c) (seen start) (seen own) → names_using waits (seen own) ≡ true
       → ((ds : List Tree) (r : Input) → TakesWord (without_in (plain c)) using_kind (seen s) (seen (next s)) → Declarators inner good (without_in c) ds (seen (next s)) r → UsingBindings (without_in (plain c)) waits (children (pack ds)) (seen own) r)
-      → own.commas ≡ s.commas → Sure s.commas (for_using lm inner c start awaits own waits s) (GotStmt c start)
+      → own.commas ≡ s.commas → Sure s.commas (for_using lm inner c (lo (seen start)) awaits (lo (seen own)) waits s) (GotStmt c start)
   unfolding for_using
   using_sure c start awaits own waits s o v f _ = word_sure c using_kind s _ _ (λ e b. then_sure s.commas (declarators_by lm inner (without_in c) (next s)) _ _ _ (declarators_sure inner good (without_in c) (next s)) (λ ds h.
       let k = f ds.0 (seen ds.1) (e, b, tt, refl) h in
@@ -148,7 +148,7 @@ module _ (inner : Inner Input) (good : Sound inner) where
       (λ a p x y z m r q t w. (seen own, seen ds.1, m, opened c start awaits (seen own) a o, v, k, refl, t, w, q))))
 
   expression_rest_sure : (c : Code) (start : State Input) (awaits : Bool) (own : State Input) (e : Tree) (s : State Input) → ForAwaitOpen awaits (plain c) (seen start) (seen own) → starts_head (seen own) ≡ true → 1 ≤ level e → Made (without_in c) own (e, s)
-      → Sure s.commas (for_expression_rest lm inner c start awaits own e s) (GotStmt c start)
+      → Sure s.commas (for_expression_rest lm inner c (lo (seen start)) awaits own e s) (GotStmt c start)
   unfolding for_expression_rest
   expression_rest_sure c start awaits own e s o v l m = test_sure s.commas (kind (seen s)) of_kind _ _ _
       (λ _. if_sure s.commas (eqb (kind (seen own)) let_kind || (not awaits && (eqb (kind (seen own)) async_kind && eqb (kind2 (seen own)) of_kind))) _ _ _ (λ _. record { so = tt })
@@ -168,12 +168,12 @@ module _ (inner : Inner Input) (good : Sound inner) where
         q,
       )))))
 
-  expression_sure : (c : Code) (start : State Input) (awaits : Bool) (s : State Input) → ForAwaitOpen awaits (plain c) (seen start) (seen s) → Sure s.commas (for_expression lm inner c start awaits s) (GotStmt c start)
+  expression_sure : (c : Code) (start : State Input) (awaits : Bool) (s : State Input) → ForAwaitOpen awaits (plain c) (seen start) (seen s) → Sure s.commas (for_expression lm inner c (lo (seen start)) awaits s) (GotStmt c start)
   unfolding for_expression
   expression_sure c start awaits s o = if_sure s.commas (eqb (kind (seen s)) let_kind && eqb (kind2 (seen s)) left_bracket_kind) _ _ _ (λ _. record { so = tt })
       (λ n. then_sure s.commas (inner.expr (without_in c) expression_level s) _ _ _ (good.expr (without_in c) expression_level s (omega arith)) (λ e h. expression_rest_sure c start awaits s e.0 e.1 o (not_from_false _ n) h.0 h.1))
 
-  for_head_sure : (c : Code) (start : State Input) (awaits : Bool) (s : State Input) → ForAwaitOpen awaits (plain c) (seen start) (seen s) → Sure s.commas (for_head lm inner c start awaits s) (GotStmt c start)
+  for_head_sure : (c : Code) (start : State Input) (awaits : Bool) (s : State Input) → ForAwaitOpen awaits (plain c) (seen start) (seen s) → Sure s.commas (for_head lm inner c (lo (seen start)) awaits s) (GotStmt c start)
   unfolding for_head
   for_head_sure c start awaits s o = test_sure s.commas (kind (seen s)) semicolon_kind _ _ _
       (λ _. if_sure s.commas awaits _ _ _ (λ _. record { so = tt }) (λ a. for_rest_sure c start absent s (λ p x y z i r q t w. (seen s, seen s, i, opened c start awaits (seen s) a o, refl, t, w, q)))) (λ _.

@@ -282,21 +282,21 @@ module _ (inner : Inner Input) (good : Sound inner) where
       by_chain true u f d = (u refl, dull c start (opt_chain_expr p false (member_expr p t k)) r (f refl) (λ b j. refl))
       by_chain false u f d = (omega (arith, h, g), member_made c start p t k r (d refl))
 
-  member_by_sure : (l : ℕ) (c : Code) (start : State Input) (t : Tree) (s : State Input) → l ≤ level t → Produces t (plain c) (seen start) (seen s) → call_level ≤ level t → l ≤ member_level → kind (seen s) ≡ dot_kind → Sure s.commas (member_by lm inner c start t s) (GotStep l c start)
+  member_by_sure : (l : ℕ) (c : Code) (start : State Input) (t : Tree) (s : State Input) → l ≤ level t → Produces t (plain c) (seen start) (seen s) → call_level ≤ level t → l ≤ member_level → kind (seen s) ≡ dot_kind → Sure s.commas (member_by lm inner c (lo (seen start)) t s) (GotStep l c start)
   unfolding member_by
   member_by_sure l c start t s h m v p e = then_sure s.commas (member_name lm inner true (next s)) _ _ _ (member_name_sure c (next s)) (λ k w. let q = span (lo (seen start)) k.1.source.last in
       done (on_chain lm inner (is_chain t) q (member_expr q t k.0), k.1) (GotStep l c start) (linked l c start q t k.0 k.1 h p
       (λ z. chain_with (plain c) q q false t k.0 (seen start) (seen k.1) w.0 (seen s, z, m, (seen (next s), (e, tt, refl), w), refl, refl))
       (λ z. member_with (plain c) q t k.0 (seen start) (seen k.1) w.0 (seen s, z, (v, m), (seen (next s), (e, tt, refl), w), refl))))
 
-  index_by_sure : (l : ℕ) (c : Code) (start : State Input) (t : Tree) (s : State Input) → l ≤ level t → Produces t (plain c) (seen start) (seen s) → call_level ≤ level t → l ≤ member_level → kind (seen s) ≡ left_bracket_kind → Sure s.commas (index_by lm inner c start t s) (GotStep l c start)
+  index_by_sure : (l : ℕ) (c : Code) (start : State Input) (t : Tree) (s : State Input) → l ≤ level t → Produces t (plain c) (seen start) (seen s) → call_level ≤ level t → l ≤ member_level → kind (seen s) ≡ left_bracket_kind → Sure s.commas (index_by lm inner c (lo (seen start)) t s) (GotStep l c start)
   unfolding index_by
   index_by_sure l c start t s h m v p e = then_sure s.commas (computed_by lm inner c expression_level s) _ _ _ (computed_sure inner good c expression_level s (omega arith) (λ t h. h) e) (λ k w. let q = span (lo (seen start)) k.1.source.last in
       done (on_chain lm inner (is_chain t) q (member_expr q t k.0), k.1) (GotStep l c start)
       (bracketed_is expression_level (plain c) (seen s) (seen k.1) (λ y. GotStep l c start (on_chain lm inner (is_chain t) q (member_expr q t y), k.1)) (λ u y a. linked l c start q t (computed_prop_name u y) k.1 h p
       (λ z. (seen s, z, m, a, refl, refl)) (λ z. (seen s, z, (v, m), a, refl))) k.0 w))
 
-  call_by_sure : (l : ℕ) (c : Code) (start : State Input) (t : Tree) (s : State Input) → Produces t (plain c) (seen start) (seen s) → call_level ≤ level t → l ≤ call_level → kind (seen s) ≡ left_paren_kind → Sure s.commas (call_by lm inner c start t s) (GotStep l c start)
+  call_by_sure : (l : ℕ) (c : Code) (start : State Input) (t : Tree) (s : State Input) → Produces t (plain c) (seen start) (seen s) → call_level ≤ level t → l ≤ call_level → kind (seen s) ≡ left_paren_kind → Sure s.commas (call_by lm inner c (lo (seen start)) t s) (GotStep l c start)
   unfolding call_by
   call_by_sure l c start t s m v p e = then_sure s.commas (arguments_by lm inner c (next s)) _ _ _ (arguments_sure inner good c (next s)) (λ xs w. let q = span (lo (seen start)) xs.1.source.last in
       done (call_tree lm inner q t xs.0, xs.1) (GotStep l c start) (by_chain q xs.0 xs.1 (is_chain t)
@@ -309,7 +309,7 @@ module _ (inner : Inner Input) (good : Sound inner) where
       by_chain q xs r false f d = (p, dull c start _ r (d refl) (λ b j. refl))
 
   chain_by_sure : (l : ℕ) (c : Code) (start : State Input) (t : Tree) (s : State Input) → Produces t (plain c) (seen start) (seen s) → call_level ≤ level t → l ≤ call_level → Optional (plain c) (seen s) (seen (next (next s)))
-      → Sure s.commas (chain_by lm inner c start t (next (next s))) (GotStep l c start)
+      → Sure s.commas (chain_by lm inner c (lo (seen start)) t (next (next s))) (GotStep l c start)
   unfolding chain_by
   chain_by_sure l c start t s m v p o = let u = next (next s) in test_sure s.commas (kind (seen u)) left_paren_kind _ _ _
       (λ e. then_sure s.commas (arguments_by lm inner c (next u)) _ _ _ (arguments_sure inner good c (next u)) (λ xs w. let q = span (lo (seen start)) xs.1.source.last in
@@ -321,13 +321,13 @@ module _ (inner : Inner Input) (good : Sound inner) where
       (λ _. then_sure s.commas (member_name lm inner true u) _ _ _ (member_name_sure c u) (λ k w. let q = span (lo (seen start)) k.1.source.last in
       done (opt_chain_expr q true (member_expr q t k.0), k.1) (GotStep l c start) (p, dull c start _ k.1 (chain_with (plain c) q q true t k.0 (seen start) (seen k.1) w.0 (seen s, seen u, (v, m), o, w, refl, refl)) (λ b j. refl)))))
 
-  cond_by_sure : (l : ℕ) (c : Code) (start : State Input) (t : Tree) (s : State Input) → Produces t (plain c) (seen start) (seen s) → coalesce_level ≤ level t → l ≤ conditional_level → kind (seen s) ≡ question_mark_kind → Sure s.commas (cond_by lm inner c start t s) (GotStep l c start)
+  cond_by_sure : (l : ℕ) (c : Code) (start : State Input) (t : Tree) (s : State Input) → Produces t (plain c) (seen start) (seen s) → coalesce_level ≤ level t → l ≤ conditional_level → kind (seen s) ≡ question_mark_kind → Sure s.commas (cond_by lm inner c (lo (seen start)) t s) (GotStep l c start)
   unfolding cond_by
   cond_by_sure l c start t s m v p e = then_sure s.commas (inner.expr (with_in c) assignment_level (next s)) _ _ _ (good.expr (with_in c) assignment_level (next s) (omega arith)) (λ a h. eat_sure colon_kind a.1 _ _ (λ z.
       then_sure a.1.commas (inner.expr c assignment_level (next a.1)) _ _ _ (good.expr c assignment_level (next a.1) (omega arith)) (λ b k. let q = cond_expr (span (lo (seen start)) b.1.source.last) t a.0 b.0 in
       done (q, b.1) (GotStep l c start) (p, dull c start q b.1 (seen s, seen (next s), seen a.1, seen (next a.1), (v, m), (e, tt, refl), (h.0, h.1.produced), (z, tt, refl), (k.0, k.1.produced), refl) (λ y j. refl)))))
 
-  assign_by_sure : (l : ℕ) (c : Code) (start : State Input) (t : Tree) (s : State Input) → Made c start (t, s) → l ≤ assignment_level → is_assign_op (kind (seen s)) ≡ true → Sure s.commas (assign_by lm inner c start t s) (GotStep l c start)
+  assign_by_sure : (l : ℕ) (c : Code) (start : State Input) (t : Tree) (s : State Input) → Made c start (t, s) → l ≤ assignment_level → is_assign_op (kind (seen s)) ≡ true → Sure s.commas (assign_by lm inner c (lo (seen start)) t s) (GotStep l c start)
   unfolding assign_by
   assign_by_sure l c start t s m p e = then_placed _ s.commas (to_target (kind (seen s)) s.commas t) _ (IsTarget (kind (seen s)) c (seen start) (seen s)) _ (target_holds (kind (seen s)) s.commas c t (seen start) (seen s) m.produced (m.refines s.commas (same s.commas))) (λ a h.
       then_sure s.commas (inner.expr c assignment_level (next s)) _ _ _ (good.expr c assignment_level (next s) (omega arith)) (λ v k. let q = span (lo (seen start)) v.1.source.last in
@@ -335,12 +335,12 @@ module _ (inner : Inner Input) (good : Sound inner) where
       done (assign_expr q (kind (seen s)) a v.0, v.1) (GotStep l c start) (p, record { produced = y; refines = λ j g. record { so = λ b f. assign_refines b j c q (kind (seen s)) a v.0 (seen start) (seen v.1) y f } })))
 
   binary_by_sure : (l : ℕ) (c : Code) (start : State Input) (t : Tree) (s : State Input) → Produces t (plain c) (seen start) (seen s) → l ≤ binary_level (kind (seen s)) → operates c (kind (seen s)) ≡ true → fits_left (kind (seen s)) t ≡ true
-      → Sure s.commas (binary_by lm inner c start t s) (GotStep l c start)
+      → Sure s.commas (binary_by lm inner c (lo (seen start)) t s) (GotStep l c start)
   unfolding binary_by
   binary_by_sure l c start t s m p o f = word_sure c (kind (seen s)) s _ _ (λ e b. then_sure s.commas (inner.expr c (right_level (kind (seen s))) (next s)) _ _ _ (good.expr c (right_level (kind (seen s))) (next s) (right_some (kind (seen s)))) (λ v k. let q = bin_expr (span (lo (seen start)) v.1.source.last) (kind (seen s)) t v.0 in
       done (q, v.1) (GotStep l c start) (p, dull c start q v.1 (seen s, seen (next s), o, f, m, (e, b, tt, refl), (at_level (right_level (kind (seen s))) v.0 (right_most (kind (seen s))) k.0, k.1.produced), refl) (λ y j. refl))))
 
-  step_sure : (l : ℕ) (c : Code) (start : State Input) (t : Tree) (s : State Input) → 1 ≤ l → l ≤ level t → Made c start (t, s) → l ≤ goes_expr c (ends t) (seen s) → Sure s.commas (step_by lm inner c start t s) (GotStep l c start)
+  step_sure : (l : ℕ) (c : Code) (start : State Input) (t : Tree) (s : State Input) → 1 ≤ l → l ≤ level t → Made c start (t, s) → l ≤ goes_expr c (ends t) (seen s) → Sure s.commas (step_by lm inner c (lo (seen start)) t s) (GotStep l c start)
   unfolding step_by
   step_sure l c start t s l1 h m g =
       let d = dotted (ends t) s in let w = goes_le c (ends t) s in let sp = m.produced in
@@ -385,15 +385,15 @@ module _ (inner : Inner Input) (good : Sound inner) where
     high : l ≤ level t
     made : Made c start (t, s)
 
-  loop_step_sure : (l : ℕ) (c : Code) (start : State Input) → 1 ≤ l → (t : Tree) (s : State Input) → Going l c start t s → Sure s.commas (loop_step lm inner c l start t s) (StepSure (Going l c start) (Going l c start))
+  loop_step_sure : (l : ℕ) (c : Code) (start : State Input) → 1 ≤ l → (t : Tree) (s : State Input) → Going l c start t s → Sure s.commas (loop_step lm inner c l (lo (seen start)) t s) (StepSure (Going l c start) (Going l c start))
   unfolding loop_step
   loop_step_sure l c start l1 t s i = if_sure s.commas (ltb (goes_expr c (ends t) (seen s)) l) _ _ _ (λ _. done (finished t, s) (StepSure (Going l c start) (Going l c start)) i)
-      (λ e. then_sure s.commas (step_by lm inner c start t s) _ _ _ (step_sure l c start t s l1 i.high i.made (ltb-false (goes_expr c (ends t) (seen s)) l e)) (λ x h. done (go_on x.0, x.1) (StepSure (Going l c start) (Going l c start)) (record { high = h.0; made = h.1 })))
+      (λ e. then_sure s.commas (step_by lm inner c (lo (seen start)) t s) _ _ _ (step_sure l c start t s l1 i.high i.made (ltb-false (goes_expr c (ends t) (seen s)) l e)) (λ x h. done (go_on x.0, x.1) (StepSure (Going l c start) (Going l c start)) (record { high = h.0; made = h.1 })))
 
-  loop_by_sure : (l : ℕ) (c : Code) (start : State Input) (t : Tree) (s : State Input) → 1 ≤ l → Made c start (t, s) → Sure s.commas (loop_by lm inner c l start t s) (GotExpr c l start)
+  loop_by_sure : (l : ℕ) (c : Code) (start : State Input) (t : Tree) (s : State Input) → 1 ≤ l → Made c start (t, s) → Sure s.commas (loop_by lm inner c l (lo (seen start)) t s) (GotExpr c l start)
   unfolding loop_by
   loop_by_sure l c start t s l1 m = if_sure s.commas (leb l (level t)) _ _ _
-      (λ e. sure_map s.commas (iterate _ (loop_step lm inner c l start) t s) _ _ (loop_sure (loop_step lm inner c l start) (Going l c start) (Going l c start) (λ x r i. loop_step_sure l c start l1 x r i) t s (record { high = leb-true l (level t) e; made = m }))
+      (λ e. sure_map s.commas (iterate _ (loop_step lm inner c l (lo (seen start))) t s) _ _ (loop_sure (loop_step lm inner c l (lo (seen start))) (Going l c start) (Going l c start) (λ x r i. loop_step_sure l c start l1 x r i) t s (record { high = leb-true l (level t) e; made = m }))
       (λ x i. (from_level l x.0 i.high, i.made)))
       (λ _. if_sure s.commas (eqb (level t) new_level && eqb l member_level) _ _ _ (λ e. let b = and_parts (eqb (level t) new_level) (eqb l member_level) e in
       done (t, s) (GotExpr c l start) (by_yes (eqb l member_level) _ _ b.1 (inr (eqb-true (level t) new_level b.0)), m)) (λ _. record { so = tt }))
@@ -403,7 +403,7 @@ module _ (inner : Inner Input) (good : Sound inner) where
   private_in_sure c l s l1 = then_sure s.commas (private_by lm inner s) _ _ _ (private_sure inner c s) (λ p h.
       if_sure p.1.commas (eqb (kind (seen p.1)) in_kind && (has_in c && leb l (binary_level in_kind))) _ _ _ (λ e.
       let b = and_parts (eqb (kind (seen p.1)) in_kind) (has_in c && leb l (binary_level in_kind)) e in let d = and_parts (has_in c) (leb l (binary_level in_kind)) b.1 in let k = eqb-true (kind (seen p.1)) in_kind b.0 in
-      then_sure p.1.commas (binary_by lm inner c s p.0 p.1) _ _ _ (binary_by_sure l c s p.0 p.1 h.1 (subst (λ (j : ℕ). l ≤ binary_level j) (sym k) (leb-true l (binary_level in_kind) d.1)) (subst (λ (j : ℕ). operates c j ≡ true) (sym k) d.0) (private_fits p.0 (kind (seen p.1)) h.0 b.0))
+      then_sure p.1.commas (binary_by lm inner c (lo (seen s)) p.0 p.1) _ _ _ (binary_by_sure l c s p.0 p.1 h.1 (subst (λ (j : ℕ). l ≤ binary_level j) (sym k) (leb-true l (binary_level in_kind) d.1)) (subst (λ (j : ℕ). operates c j ≡ true) (sym k) d.0) (private_fits p.0 (kind (seen p.1)) h.0 b.0))
       (λ t m. loop_by_sure l c s t.0 t.1 l1 m.1)) (λ _. record { so = tt }))
     where
       private_fits : (a : Tree) (k : ℕ) → is_private a ≡ true → eqb k in_kind ≡ true → fits_left k a ≡ true

@@ -33,7 +33,7 @@ module _ (inner : Inner Input) (good : Sound inner) where
   abbrev GotItem : Code → State Input → Tree × State Input → Type 0
   GotItem c start x = (is_item_pat true x.0 ≡ true) × Produces x.0 (patterned true (with_in c)) (seen start) (seen x.1) × (is_rest x.0 ≡ false) × (is_hole x.0 ≡ false)
 
-  initial_sure : (c : Code) (start : State Input) (p : Tree) (s : State Input) → is_binding p ≡ true → Produces p (patterned true (with_in c)) (seen start) (seen s) → Sure s.commas (initial_pat lm inner c start p s) (GotItem c start)
+  initial_sure : (c : Code) (start : State Input) (p : Tree) (s : State Input) → is_binding p ≡ true → Produces p (patterned true (with_in c)) (seen start) (seen s) → Sure s.commas (initial_pat lm inner c (lo (seen start)) p s) (GotItem c start)
   unfolding initial_pat
   initial_sure c start p s b h = test_sure s.commas (kind (seen s)) assign_kind _ _ _
       (λ e. then_sure s.commas (inner.expr (with_in c) assignment_level (next s)) _ _ _ (good.expr (with_in c) assignment_level (next s) (omega arith)) (λ v k. let q = ap (λ z. z || false) b in
@@ -71,7 +71,7 @@ module _ (inner : Inner Input) (good : Sound inner) where
       test_sure s.commas (kind (seen s)) comma_kind _ _ _ (λ e. done (go_on (xs ++ hole ∷ []), next s) (StepSure (Before (Items c) ts) (All_read (Items c) ts)) (one_more (Items c) ts xs s hole (next s) b (λ ys r h. (seen (next s), takes_in c comma_kind s e, h)))) (λ _.
       test_sure s.commas (kind (seen s)) dot_dot_dot_kind _ _ _ (λ e. then_sure s.commas (inner.pat (with_in c) (next s)) _ _ _ (good.pat (with_in c) (next s)) (λ p h. let q = ap (λ z. z || false) h.0 in let d = rest_pat (span (lo (seen s)) p.1.source.last) (dots_at (lo (seen s))) p.0 in
       after_sure (Items c) ts right_bracket_kind true xs s d p.1 b (λ z. absurd (true≢false z)) (λ z. (seen p.1, (q, (seen (next s), (e, tt, refl), refl, q, h.1, refl)), inr (tt, takes_in c right_bracket_kind p.1 z))))) (λ _.
-      then_sure s.commas (inner.pat (with_in c) s) _ _ _ (good.pat (with_in c) s) (λ p h. then_sure p.1.commas (initial_pat lm inner c s p.0 p.1) _ _ _ (initial_sure c s p.0 p.1 h.0 h.1) (λ q k.
+      then_sure s.commas (inner.pat (with_in c) s) _ _ _ (good.pat (with_in c) s) (λ p h. then_sure p.1.commas (initial_pat lm inner c (lo (seen s)) p.0 p.1) _ _ _ (initial_sure c s p.0 p.1 h.0 h.1) (λ q k.
       after_sure (Items c) ts right_bracket_kind false xs s q.0 q.1 b
       (λ _ z ys r l. by_no (is_hole q.0) (AtHole c ys (seen s) r) (AtItem c q.0 ys (seen s) r) k.3 (seen q.1, (k.0, k.1), inl (k.2, seen (next q.1), takes_in c comma_kind q.1 z, l)))
       (λ z. by_no (is_hole q.0) (AtHole c [] (seen s) (seen (next q.1))) (AtItem c q.0 [] (seen s) (seen (next q.1))) k.3 (seen q.1, (k.0, k.1), inr (tt, takes_in c right_bracket_kind q.1 z))))))))
@@ -89,9 +89,9 @@ module _ (inner : Inner Input) (good : Sound inner) where
   abbrev GotProp : Code → State Input → Tree × State Input → Type 0
   GotProp c s x = (is_pattern_prop x.0 ≡ true) × (takes_rest x.0 ≡ true) × Produces x.0 (patterned true (with_in c)) (seen s) (seen x.1) × (is_rest x.0 ≡ false)
 
-  keyed_sure : (c : Code) (start : State Input) (k : Tree) (m s : State Input) → is_key k ≡ true → Produces k (plain c) (seen start) (seen m) → Takes (patterned true (with_in c)) colon_kind (seen m) (seen s) → Sure s.commas (keyed_item lm inner c start k s) (GotProp c start)
+  keyed_sure : (c : Code) (start : State Input) (k : Tree) (m s : State Input) → is_key k ≡ true → Produces k (plain c) (seen start) (seen m) → Takes (patterned true (with_in c)) colon_kind (seen m) (seen s) → Sure s.commas (keyed_item lm inner c (lo (seen start)) k s) (GotProp c start)
   unfolding keyed_item
-  keyed_sure c start k m s e h t = then_sure s.commas (inner.pat (with_in c) s) _ _ _ (good.pat (with_in c) s) (λ p g. then_sure p.1.commas (initial_pat lm inner c s p.0 p.1) _ _ _ (initial_sure c s p.0 p.1 g.0 g.1) (λ q j.
+  keyed_sure c start k m s e h t = then_sure s.commas (inner.pat (with_in c) s) _ _ _ (good.pat (with_in c) s) (λ p g. then_sure p.1.commas (initial_pat lm inner c (lo (seen s)) p.0 p.1) _ _ _ (initial_sure c s p.0 p.1 g.0 g.1) (λ q j.
       done (key_value_pat_prop (span (lo (seen start)) q.1.source.last) k q.0, q.1) (GotProp c start) (refl, refl, (seen m, seen s, (e, key_in k c (seen start) (seen m) e h), t, (j.0, j.1), j.2, refl), refl)))
 
   named_sure : (c : Code) (r s : State Input) → Sure s.commas (named_item lm inner c r s) (GotProp c s)

@@ -91,13 +91,13 @@ module _ (inner : Inner Input) (good : Sound inner) where
   group_sure c l s e = then_sure s.commas (elements_by lm inner (with_in c) false right_paren_kind (next s)) _ _ _ (elements_sure inner good (with_in c) false right_paren_kind (next s)) (λ xs w.
       paren_sure inner good c l s xs.0 xs.1 e (w.so xs.1.commas (same xs.1.commas)) (λ ps q. (seen s, refl, inr (seen (next s), (e, tt, refl), q))))
 
-  ident_sure : (c : Code) (l : ℕ) (s : State Input) → IsName c s → Sure s.commas (ident_end lm inner c l s (text (seen s)) (next s)) (Made c s)
+  ident_sure : (c : Code) (l : ℕ) (s : State Input) → IsName c s → Sure s.commas (ident_end lm inner c l (first_span (seen s)) (text (seen s)) (next s)) (Made c s)
   unfolding ident_end
   ident_sure c l s i = if_sure s.commas (arrows_at lm inner l (next s)) _ _ _
       (λ a. arrow_sure inner good c s false (binding_ident (first_span (seen s)) (ident (first_span (seen s)) (text (seen s))) ∷ []) (next s) (seen s, refl, inl (tt, (refl, (refl, named c s i)))) (at_arrow inner good l (next s) a))
       (λ _. done (ident (first_span (seen s)) (text (seen s)), next s) (Made c s) (made_name c s i))
 
-  async_group_sure : (c : Code) (l : ℕ) (s : State Input) → kind (seen s) ≡ async_kind → kind (seen (next s)) ≡ left_paren_kind → Sure s.commas (async_group lm inner c l s (next s)) (Made c s)
+  async_group_sure : (c : Code) (l : ℕ) (s : State Input) → kind (seen s) ≡ async_kind → kind (seen (next s)) ≡ left_paren_kind → Sure s.commas (async_group lm inner c l (first_span (seen s)) (text (seen s)) (next s)) (Made c s)
   unfolding async_group
   async_group_sure c l s e o = then_sure s.commas (elements_by lm inner (with_in c) false right_paren_kind (next (next s))) _ _ _ (elements_sure inner good (with_in c) false right_paren_kind (next (next s))) (λ xs w.
       let h = w.so xs.1.commas (same xs.1.commas) in
@@ -108,7 +108,7 @@ module _ (inner : Inner Input) (good : Sound inner) where
       (λ _. let t = call_expr (span (lo (seen s)) xs.1.source.last) (ident (first_span (seen s)) (text (seen s))) (pack xs.0.items) in
       done (t, xs.1) (Made c s) (dull c s t xs.1 (seen (next s), refl, (omega arith, named c s (soft_name c s e)), (seen (next (next s)), (o, tt, refl), argument_list_in xs.1.commas c xs.0.comma xs.0.items (seen (next (next s))) (seen xs.1) h), refl) (λ b k. refl))))
 
-  pub function_name_sure : (c : Code) (start : State Input) (g a : Bool) (s : State Input) → FunctionHead g a (plain c) (seen start) (seen s) → Sure s.commas (function_expr_name lm inner c start g a s) (λ x. Made c start x × (is_default_decl x.0 ≡ true))
+  pub function_name_sure : (c : Code) (start : State Input) (g a : Bool) (s : State Input) → FunctionHead g a (plain c) (seen start) (seen s) → Sure s.commas (function_expr_name lm inner c (lo (seen start)) g a s) (λ x. Made c start x × (is_default_decl x.0 ≡ true))
   unfolding function_expr_name
   function_name_sure c start g a s h = test_sure s.commas (kind (seen s)) left_paren_kind _ _ _
       (λ _. then_sure s.commas (function_by lm inner c (lo (seen start)) g a s) _ _ _ (function_sure inner good c (lo (seen start)) g a s) (λ f w. let p = span (lo (seen start)) f.1.source.last in
@@ -120,10 +120,10 @@ module _ (inner : Inner Input) (good : Sound inner) where
         refl,
       ))))
 
-  pub function_expr_sure : (c : Code) (start : State Input) (a : Bool) (s : State Input) → Async a (plain c) (seen start) (seen s) → Sure s.commas (function_expr_by lm inner c start a s) (λ x. Made c start x × (is_default_decl x.0 ≡ true))
+  pub function_expr_sure : (c : Code) (start : State Input) (a : Bool) (s : State Input) → Async a (plain c) (seen start) (seen s) → Sure s.commas (function_expr_by lm inner c (lo (seen start)) a s) (λ x. Made c start x × (is_default_decl x.0 ≡ true))
   unfolding function_expr_by
   function_expr_sure c start a s h = word_sure c function_kind s _ _ (λ e b. star_sure inner c (next s) _ _ (λ g r q t.
-      subst (λ j. Sure j (function_expr_name lm inner c start g a r) (λ x. Made c start x × (is_default_decl x.0 ≡ true))) q (function_name_sure c start g a r (seen s, seen (next s), h, (e, b, tt, refl), t))))
+      subst (λ j. Sure j (function_expr_name lm inner c (lo (seen start)) g a r) (λ x. Made c start x × (is_default_decl x.0 ≡ true))) q (function_name_sure c start g a r (seen s, seen (next s), h, (e, b, tt, refl), t))))
 
   class_spelled : (c : Code) (s : Span) (name k : Tree) (ts r : Input) → class_span k ≡ Some s → ClassExpression (plain c) s (child name (λ y. Produces name y)) (child k (λ y. Produces k y)) (Some s) ts r → Produces (class_expr s name k) (plain c) ts r
   class_spelled c s name k ts r e h = subst (λ (o : Option Span). ClassExpression (plain c) s (child name (λ y. Produces name y)) (child k (λ y. Produces k y)) o ts r) (sym e) h
@@ -143,7 +143,7 @@ module _ (inner : Inner Input) (good : Sound inner) where
   async_sure c l s e = let t = soft c async_kind s e and_false in
       if_sure s.commas ((eqb (kind (seen (next s))) function_kind && not (brk (seen (next s)))) && not (barred c.context (seen (next s)))) _ _ _
       (λ z. let b = and_parts (eqb (kind (seen (next s))) function_kind) (not (brk (seen (next s)))) (and_parts (eqb (kind (seen (next s))) function_kind && not (brk (seen (next s)))) _ z).0 in
-      sure_map s.commas (function_expr_by lm inner c s true (next s)) _ _ (function_expr_sure c s true (next s) ((e, t, tt, refl), not-true (brk (seen (next s))) b.1)) (λ x h. h.0))
+      sure_map s.commas (function_expr_by lm inner c (lo (seen s)) true (next s)) _ _ (function_expr_sure c s true (next s) ((e, t, tt, refl), not-true (brk (seen (next s))) b.1)) (λ x h. h.0))
       (λ _. if_sure s.commas (is_async_param lm inner c l (next s)) _ _ _
       (λ z. let b = and_parts (is_name lm c (next s)) _ z in let y = and_parts (not (brk (seen (next s))) && eqb (kind2 (seen (next s))) arrow_kind && not (brk2 (seen (next s)))) (leb l assignment_level) b.1 in
       let d = and3 (not (brk (seen (next s)))) (eqb (kind2 (seen (next s))) arrow_kind) (not (brk2 (seen (next s)))) y.0 in
@@ -167,7 +167,7 @@ new_level_of : (l : ℕ) → (leb member_level l || eqb l new_level) ≡ true �
 new_level_of l e = ⊎_elim (λ (q : leb member_level l ≡ true). inr (leb-true member_level l q)) (λ (q : leb member_level l ≡ false). inl (eqb-true l new_level (subst (λ b. (b || eqb l new_level) ≡ true) q e))) (cases_Bool (leb member_level l))
 
 module _ (inner : Inner Input) (good : Sound inner) where
-  new_end_sure : (c : Code) (s : State Input) (f : Tree) (r : State Input) → TakesWord (plain c) new_kind (seen s) (seen (next s)) → Produces f (plain c) (seen (next s)) (seen r) → Sure r.commas (new_end lm inner c s f r) (Made c s)
+  new_end_sure : (c : Code) (s : State Input) (f : Tree) (r : State Input) → TakesWord (plain c) new_kind (seen s) (seen (next s)) → Produces f (plain c) (seen (next s)) (seen r) → Sure r.commas (new_end lm inner c (lo (seen s)) f r) (Made c s)
   unfolding new_end
   new_end_sure c s f r t h = if_sure r.commas (eqb (kind (seen r)) left_paren_kind && leb member_level (level f)) _ _ _
       (λ z. let b = and_parts (eqb (kind (seen r)) left_paren_kind) (leb member_level (level f)) z in
@@ -192,7 +192,7 @@ module _ (inner : Inner Input) (good : Sound inner) where
       done (meta_prop_expr p new_kind, next (next (next s))) (Made c s) (dull c s (meta_prop_expr p new_kind) (next (next (next s))) (seen (next s), seen (next (next s)), (e, b, tt, refl), (z, tt, refl), inl (refl, (k, w, tt, refl)), refl) (λ b k. refl))))
       (λ _. then_sure s.commas (callee_by lm inner c (next s)) _ _ _ (callee_sure c (next s)) (λ f h. new_end_sure c s f.0 f.1 (e, b, tt, refl) h)))
 
-  super_sure : (c : Code) (s : State Input) → TakesWord (plain c) super_kind (seen s) (seen (next s)) → Sure s.commas (super_end lm inner c s (next s)) (Made c s)
+  super_sure : (c : Code) (s : State Input) → TakesWord (plain c) super_kind (seen s) (seen (next s)) → Sure s.commas (super_end lm inner c (first_span (seen s)) (next s)) (Made c s)
   unfolding super_end
   super_sure c s t = test_sure s.commas (kind (seen (next s))) left_paren_kind _ _ _
       (λ z. then_sure s.commas (arguments_by lm inner c (next (next s))) _ _ _ (arguments_sure inner good c (next (next s))) (λ xs w. let p = call_expr (span (lo (seen s)) xs.1.source.last) (super (first_span (seen s))) (pack xs.0) in
@@ -267,7 +267,7 @@ module _ (inner : Inner Input) (good : Sound inner) where
       test_sure s.commas (kind (seen s)) null_kind _ _ _ (λ e. fixed_sure c s null_lit (λ b. dull c s _ (next s) ((e, b, tt, refl), refl) (λ b k. refl))) (λ _.
       test_sure s.commas (kind (seen s)) true_kind _ _ _ (λ e. fixed_sure c s (λ p. bool_lit p true) (λ b. dull c s _ (next s) ((e, b, tt, refl), refl) (λ b k. refl))) (λ _.
       test_sure s.commas (kind (seen s)) false_kind _ _ _ (λ e. fixed_sure c s (λ p. bool_lit p false) (λ b. dull c s _ (next s) ((e, b, tt, refl), refl) (λ b k. refl))) (λ _.
-      test_sure s.commas (kind (seen s)) function_kind _ _ _ (λ e. sure_map s.commas (function_expr_by lm inner c s false s) _ _ (function_expr_sure inner good c s false s refl) (λ x h. h.0)) (λ _.
+      test_sure s.commas (kind (seen s)) function_kind _ _ _ (λ e. sure_map s.commas (function_expr_by lm inner c (lo (seen s)) false s) _ _ (function_expr_sure inner good c s false s refl) (λ x h. h.0)) (λ _.
       test_sure s.commas (kind (seen s)) class_kind _ _ _ (λ e. sure_map s.commas (class_expr_by lm inner c s) _ _ (class_expr_sure inner good c s) (λ x h. h.0)) (λ _.
       test_sure s.commas (kind (seen s)) new_kind _ _ _ (λ e. new_sure c s) (λ _.
       test_sure s.commas (kind (seen s)) super_kind _ _ _ (λ _. word_sure c super_kind s _ _ (λ e b. super_sure c s (e, b, tt, refl))) (λ _.

@@ -150,7 +150,7 @@ module _ (inner : Inner Input) (good : Sound inner) where
   Clause c xs m n = ImportClause (plain c) (children (pack xs)) m n
 
   import_end_sure : (c : Code) (start : State Input) (xs : List Tree) (s : State Input) → TakesWord (plain c) import_kind (seen start) (seen (next start)) → (TakesWord (plain c) from_kind (seen s) (seen (next s)) → Clause c xs (seen (next start)) (seen (next s)))
-      → Sure s.commas (import_end lm inner c start xs s) (λ x. (is_module_decl x.0 ≡ true) × Produces x.0 (plain c) (seen start) (seen x.1))
+      → Sure s.commas (import_end lm inner c (lo (seen start)) xs s) (λ x. (is_module_decl x.0 ≡ true) × Produces x.0 (plain c) (seen start) (seen x.1))
   unfolding import_end
   import_end_sure c start xs s t f = word_sure c from_kind s _ _ (λ e b. then_sure s.commas (source_by lm inner c (next s)) _ _ _ (source_sure c (next s)) (λ u h.
       done (import_decl (span (lo (seen start)) u.1.source.last) (pack xs) u.0.src u.0.with_, u.1) _ (refl, (seen (next start), seen (next s), t, f (e, b, tt, refl), h.0, refl))))
@@ -162,7 +162,7 @@ module _ (inner : Inner Input) (good : Sound inner) where
   import_rest_sure : (c : Code) (start : State Input) (xs : List Tree) (s : State Input) → TakesWord (plain c) import_kind (seen start) (seen (next start))
       → ((l : Tree) (p : Span) (m n : Input) → Produces (import_star_as_specifier p l) (plain c) (seen s) m → TakesWord (plain c) from_kind m n → Clause c (xs ++ import_star_as_specifier p l ∷ []) (seen (next start)) n)
       → ((ys : List Tree) (m n : Input) → NamedImports (plain c) (children (pack ys)) (seen s) m → TakesWord (plain c) from_kind m n → Clause c (xs ++ ys) (seen (next start)) n)
-      → Sure s.commas (import_rest lm inner c start xs s) (GotItem c start)
+      → Sure s.commas (import_rest lm inner c (lo (seen start)) xs s) (GotItem c start)
   unfolding import_rest star_import
   import_rest_sure c start xs s t f g = test_sure s.commas (kind (seen s)) mul_kind _ _ _
       (λ _. then_sure s.commas _ _ (λ x. (l : Tree) × (p : Span) × (x.0 ≡ import_star_as_specifier p l) × Produces (import_star_as_specifier p l) (plain c) (seen s) (seen x.1)) _
@@ -189,7 +189,7 @@ module _ (inner : Inner Input) (good : Sound inner) where
   unfolding local_by
   local_here c s = name_sure c s _ _ (λ i. done (ident (first_span (seen s)) (text (seen s)), next s) _ ((refl, named c s i), refl))
 
-  import_default_sure : (c : Code) (start : State Input) → TakesWord (plain c) import_kind (seen start) (seen (next start)) → Sure start.commas (import_default lm inner c start (next start)) (GotItem c start)
+  import_default_sure : (c : Code) (start : State Input) → TakesWord (plain c) import_kind (seen start) (seen (next start)) → Sure start.commas (import_default lm inner c (lo (seen start)) (next start)) (GotItem c start)
   unfolding import_default
   import_default_sure c start t = let s = next start in then_sure s.commas (local_by lm inner c s) _ _ _ (local_here c s) (λ l h.
       let d = import_default_specifier (first_span (seen s)) l.0 in
@@ -209,19 +209,19 @@ module _ (inner : Inner Input) (good : Sound inner) where
 
   -- ---- exports
 
-  export_default_sure : (c : Code) (start : State Input) (s : State Input) → ExportDefault (plain c) (seen start) (seen s) → Sure s.commas (export_default lm inner c start s) (GotItem c start)
+  export_default_sure : (c : Code) (start : State Input) (s : State Input) → ExportDefault (plain c) (seen start) (seen s) → Sure s.commas (export_default lm inner c (lo (seen start)) s) (GotItem c start)
   unfolding export_default
   export_default_sure c start s t = test_sure s.commas (kind (seen s)) function_kind _ _ _
-      (λ _. then_sure s.commas (function_expr_by lm inner c s false s) _ _ _ (function_expr_sure inner good c s false s refl) (λ d h. done (export_default_decl (span (lo (seen start)) d.1.source.last) d.0, d.1) (GotItem c start) (refl, (seen s, t, h.1, h.0.produced, refl)))) (λ nf.
+      (λ _. then_sure s.commas (function_expr_by lm inner c (lo (seen s)) false s) _ _ _ (function_expr_sure inner good c s false s refl) (λ d h. done (export_default_decl (span (lo (seen start)) d.1.source.last) d.0, d.1) (GotItem c start) (refl, (seen s, t, h.1, h.0.produced, refl)))) (λ nf.
       if_sure s.commas (starts_async lm inner s) _ _ _ (λ z. let b = and_parts (eqb (kind (seen s)) async_kind) (eqb (kind2 (seen s)) function_kind && not (brk2 (seen s))) z in let w = and_parts (eqb (kind2 (seen s)) function_kind) (not (brk2 (seen s))) b.1 in
       let e = eqb-true (kind (seen s)) async_kind b.0 in
-      then_sure s.commas (function_expr_by lm inner c s true (next s)) _ _ _ (function_expr_sure inner good c s true (next s) ((e, soft c async_kind s e and_false, tt, refl), not-true (brk2 (seen s)) w.1)) (λ d h. done (export_default_decl (span (lo (seen start)) d.1.source.last) d.0, d.1) (GotItem c start) (refl, (seen s, t, h.1, h.0.produced, refl)))) (λ na.
+      then_sure s.commas (function_expr_by lm inner c (lo (seen s)) true (next s)) _ _ _ (function_expr_sure inner good c s true (next s) ((e, soft c async_kind s e and_false, tt, refl), not-true (brk2 (seen s)) w.1)) (λ d h. done (export_default_decl (span (lo (seen start)) d.1.source.last) d.0, d.1) (GotItem c start) (refl, (seen s, t, h.1, h.0.produced, refl)))) (λ na.
       test_sure s.commas (kind (seen s)) class_kind _ _ _
       (λ _. then_sure s.commas (class_expr_by lm inner c s) _ _ _ (class_expr_sure inner good c s) (λ d h. done (export_default_decl (span (lo (seen start)) d.1.source.last) d.0, d.1) (GotItem c start) (refl, (seen s, t, h.1, h.0.produced, refl)))) (λ nc.
       then_sure s.commas (inner.expr c assignment_level s) _ _ _ (good.expr c assignment_level s (omega arith)) (λ e h. end_sure c (ends e.0) e.1 _ _ (λ r q z. ended e.1 r (export_default_expr (span (lo (seen start)) r.source.last) e.0) (GotItem c start) q
       (refl, (seen s, seen e.1, t, ap not (or_from _ _ (ne_eqb (kind (seen s)) function_kind nf) (or_from _ _ (ne_eqb (kind (seen s)) class_kind nc) na)), (h.0, h.1.produced), z, refl)))))))
 
-  export_star_sure : (c : Code) (start : State Input) (s : State Input) → TakesWord (plain c) export_kind (seen start) (seen s) → Sure s.commas (export_star lm inner c start s) (GotItem c start)
+  export_star_sure : (c : Code) (start : State Input) (s : State Input) → TakesWord (plain c) export_kind (seen start) (seen s) → Sure s.commas (export_star lm inner c (lo (seen start)) s) (GotItem c start)
   unfolding export_star
   export_star_sure c start s t = eat_sure mul_kind s _ _ (λ e. test_sure s.commas (kind (seen (next s))) as_kind _ _ _
       (λ _. word_sure c as_kind (next s) _ _ (λ z b. then_sure s.commas (export_name_by lm inner (next (next s))) _ _ _ (export_name_sure c (next (next s))) (λ n h. word_sure c from_kind n.1 _ _ (λ q w. then_sure n.1.commas (source_by lm inner c (next n.1)) _ _ _ (source_sure c (next n.1)) (λ x k.
@@ -240,7 +240,7 @@ module _ (inner : Inner Input) (good : Sound inner) where
   specified c [] src w ts m r h k = (m, h, k)
   specified c (y ∷ ys) src w ts m r h k = by_no (is_star_export y) _ _ (named_exported y h.2.1.0) (m, h, k)
 
-  export_list_sure : (c : Code) (start : State Input) (s : State Input) → TakesWord (plain c) export_kind (seen start) (seen s) → Sure s.commas (export_list lm inner c start s) (GotItem c start)
+  export_list_sure : (c : Code) (start : State Input) (s : State Input) → TakesWord (plain c) export_kind (seen start) (seen s) → Sure s.commas (export_list lm inner c (lo (seen start)) s) (GotItem c start)
   unfolding export_list
   export_list_sure c start s t = eat_sure left_brace_kind s _ _ (λ e. then_sure s.commas (specifiers_by lm inner false c (next s)) _ _ _ (specifiers_sure is_named_export false c (λ u. named_export_sure c u) (next s)) (λ xs h. test_sure xs.1.commas (kind (seen xs.1)) from_kind _ _ _
       (λ _. word_sure c from_kind xs.1 _ _ (λ q w. then_sure xs.1.commas (source_by lm inner c (next xs.1)) _ _ _ (source_sure c (next xs.1)) (λ x k. done (named_export (span (lo (seen start)) x.1.source.last) (pack xs.0) x.0.src x.0.with_, x.1) (GotItem c start) (
@@ -289,7 +289,7 @@ module _ (inner : Inner Input) (good : Sound inner) where
   abbrev GotProgram : Bool → Code → State Input → Tree × State Input → Type 0
   GotProgram modules c s x = Produces x.0 (plain c) (seen s) (seen x.1)
 
-  program_rest_sure : (modules : Bool) (c : Code) (start : State Input) (l : Option (List ℕ)) (s : State Input) → Hashbang (plain c) l (seen start) (seen s) → Sure s.commas (program_rest lm inner modules c start l s) (GotProgram modules c start)
+  program_rest_sure : (modules : Bool) (c : Code) (start : State Input) (l : Option (List ℕ)) (s : State Input) → Hashbang (plain c) l (seen start) (seen s) → Sure s.commas (program_rest lm inner modules c (lo (seen start)) l s) (GotProgram modules c start)
   unfolding program_rest
   program_rest_sure true c start l s h = then_sure s.commas (iterate _ (program_step lm inner true) (record { items = []; code = c; starts = true }) s) _ _ _
       (loop_sure (program_step lm inner true) (BodyFront inner good is_module_item AtEnd c (seen s)) (BodyWhole inner good is_module_item AtEnd c (seen s)) (λ x r i. program_step_sure true c (seen s) x r i) (record { items = []; code = c; starts = true }) s (record { so = λ ys r k. k }))
@@ -302,6 +302,6 @@ module _ (inner : Inner Input) (good : Sound inner) where
   unfolding program_by
   program_sure modules c s = test_sure s.commas (kind (seen s)) shebang_kind _ _ _ (λ e. hashed e (content (seen s)) refl) (λ _. program_rest_sure modules c s None s refl)
     where
-      hashed : kind (seen s) ≡ shebang_kind → (x : Content) → content (seen s) ≡ x → Sure s.commas (elim (line_of lm inner x) [ None ↦ unexpected lm s | Some l ↦ program_rest lm inner modules c s (Some l) (next s) ]) (GotProgram modules c s)
+      hashed : kind (seen s) ≡ shebang_kind → (x : Content) → content (seen s) ≡ x → Sure s.commas (elim (line_of lm inner x) [ None ↦ unexpected lm s | Some l ↦ program_rest lm inner modules c (lo (seen s)) (Some l) (next s) ]) (GotProgram modules c s)
       hashed e (Line l) q = program_rest_sure modules c s (Some l) (next s) (q, (e, tt, refl))
       hashed e _ q = record { so = tt }

@@ -86,7 +86,7 @@ module _ (inner : Inner Input) (good : Sound inner) where
   -- one branch more, before this alternative
   branch_sure : (c : Code) (ts : Input) (x : Chain) (s : State Input) → Opened c ts x s → (e a t : Tree) (m n r : Input) → TakesWord (plain x.code) if_kind (seen s) (seen (next s)) → InParens (plain x.code) (child e (λ y. Produces e y)) (seen (next s)) m → SubOrFunction (plain x.code) (child a (λ y. Produces a y)) m n
       → By (is_absent t) ((kind n ≡ else_kind → ⊥) × (n ≡ r)) ((o : Input) × TakesWord (plain x.code) else_kind n o × SubOrFunction (plain x.code) (child t (λ y. Produces t y)) o r)
-      → (is_item (chained r.last (branched lm inner s x e a).branches t) ≡ true) × Produces (chained r.last (branched lm inner s x e a).branches t) (plain c) ts r
+      → (is_item (chained r.last (branched lm inner (lo (seen s)) x e a).branches t) ≡ true) × Produces (chained r.last (branched lm inner (lo (seen s)) x e a).branches t) (plain c) ts r
   branch_sure c ts x s i e a t m n r w h k b = subst (λ (y : Tree). (is_item y ≡ true) × Produces y (plain c) ts r) (sym (chained_snoc r.last x.branches (record { start = lo (seen s); test = e; consequent = a }) t))
       (i.so (if_stmt (span (lo (seen s)) r.last) e a t) r refl (seen (next s), m, n, w, h, k, b, refl))
 
@@ -95,12 +95,12 @@ module _ (inner : Inner Input) (good : Sound inner) where
   if_step_sure c ts x s i = word_sure x.code if_kind s _ _ (λ e b. then_sure s.commas (in_parens lm inner x.code (next s)) _ _ _ (parens_sure x.code (next s)) (λ u h. then_sure u.1.commas (sub_by lm inner x.code true u.1) _ _ _ (either_sure x.code u.1) (λ y k.
       test_sure y.1.commas (kind (seen y.1)) else_kind _ _ _
       (λ z. word_sure x.code else_kind y.1 _ _ (λ q w. test_sure y.1.commas (kind (seen (next y.1))) if_kind _ _ _
-      (λ v. done (go_on (record { branches = (branched lm inner s x u.0 y.0).branches; code = alone x.code; last = absent }), next y.1) (StepSure (Opened c ts) (Ended c ts))
+      (λ v. done (go_on (record { branches = (branched lm inner (lo (seen s)) x u.0 y.0).branches; code = alone x.code; last = absent }), next y.1) (StepSure (Opened c ts) (Ended c ts))
       (record { so = λ t r g f. branch_sure c ts x s i u.0 y.0 t (seen u.1) (seen y.1) r (e, b, tt, refl) h k (alternative x.code t (seen y.1) (seen (next y.1)) r (q, w, tt, refl) (or_left (is_statement t) _ g, f)) }))
       (λ v. then_sure y.1.commas (sub_by lm inner x.code true (next y.1)) _ _ _ (either_sure x.code (next y.1)) (λ o j.
-      done (finished (record { branches = (branched lm inner s x u.0 y.0).branches; code = x.code; last = o.0 }), o.1) (StepSure (Opened c ts) (Ended c ts))
+      done (finished (record { branches = (branched lm inner (lo (seen s)) x u.0 y.0).branches; code = x.code; last = o.0 }), o.1) (StepSure (Opened c ts) (Ended c ts))
       (record { so = branch_sure c ts x s i u.0 y.0 o.0 (seen u.1) (seen y.1) (seen o.1) (e, b, tt, refl) h k (alternative x.code o.0 (seen y.1) (seen (next y.1)) (seen o.1) (q, w, tt, refl) j) })))))
-      (λ n. done (finished (branched lm inner s x u.0 y.0), y.1) (StepSure (Opened c ts) (Ended c ts)) (record { so = branch_sure c ts x s i u.0 y.0 absent (seen u.1) (seen y.1) (seen y.1) (e, b, tt, refl) h k (n, refl) })))))
+      (λ n. done (finished (branched lm inner (lo (seen s)) x u.0 y.0), y.1) (StepSure (Opened c ts) (Ended c ts)) (record { so = branch_sure c ts x s i u.0 y.0 absent (seen u.1) (seen y.1) (seen y.1) (e, b, tt, refl) h k (n, refl) })))))
     where
       alternative : (y : Code) (t : Tree) (n o r : Input) → TakesWord (plain y) else_kind n o → SubOrFunction (plain y) (child t (λ a. Produces t a)) o r → By (is_absent t) ((kind n ≡ else_kind → ⊥) × (n ≡ r)) ((o : Input) × TakesWord (plain y) else_kind n o × SubOrFunction (plain y) (child t (λ y. Produces t y)) o r)
       alternative y t n o r w j = by_no (is_absent t) ((kind n ≡ else_kind → ⊥) × (n ≡ r)) ((p : Input) × TakesWord (plain y) else_kind n p × SubOrFunction (plain y) (child t (λ a. Produces t a)) p r) (stated t (not (is_strict y)) j.0) (o, w, j)
@@ -158,7 +158,7 @@ module _ (inner : Inner Input) (good : Sound inner) where
   GotCase c s x = (is_case x.0 ≡ true) × Produces x.0 (plain c) (seen s) (seen x.1)
 
   case_rest_sure : (c : Code) (start : State Input) (e : Tree) (s : State Input) → By (is_absent e) (TakesWord (plain c) default_kind (seen start) (seen s)) ((o : Input) × TakesWord (plain c) case_kind (seen start) o × Expr expression_level (plain c) (child e (λ y. Produces e y)) o (seen s))
-      → Sure s.commas (case_rest lm inner c start e s) (GotCase c start)
+      → Sure s.commas (case_rest lm inner c (lo (seen start)) e s) (GotCase c start)
   unfolding case_rest
   case_rest_sure c start e s h = eat_sure colon_kind s _ _ (λ z. then_sure s.commas (iterate _ (case_step lm inner c) [] (next s)) _ _ _ (loop_sure (case_step lm inner c) (Before (CaseList c) (seen (next s))) (All_read (CaseList c) (seen (next s))) (λ x r b. case_step_sure c (seen (next s)) x r b) [] (next s) (at_start (CaseList c) (seen (next s)) (next s) refl))
       (λ ss k. done (switch_case (span (lo (seen start)) ss.1.source.last) e (pack ss.0), ss.1) (GotCase c start) (refl, (seen s, seen (next s), h, (z, tt, refl), k.so, refl))))
@@ -228,7 +228,7 @@ module _ (inner : Inner Input) (good : Sound inner) where
       bound_present _ e = refl
 
   finally_sure : (c : Code) (start : State Input) (b h : Tree) (m n : Input) (s : State Input) → TakesWord (plain c) try_kind (seen start) m → Sorted is_block (plain c) (child b (λ y. Produces b y)) m n → Maybe (Sorted is_catch) (plain c) (child h (λ y. Produces h y)) n (seen s)
-      → Sure s.commas (finally_by lm inner c start b h s) (GotStmt c start)
+      → Sure s.commas (finally_by lm inner c (lo (seen start)) b h s) (GotStmt c start)
   unfolding finally_by
   finally_sure c start b h m n s t k g = if_sure s.commas (eqb (kind (seen s)) finally_kind && not (barred c.context (seen s))) _ _ _
       (λ _. word_sure c finally_kind s _ _ (λ e w. then_sure s.commas (block_by lm inner c (next s)) _ _ _ (block_sure inner good c (next s)) (λ f j. let z = blocked f.0 j.0 in

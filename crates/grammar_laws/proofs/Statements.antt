@@ -45,12 +45,12 @@ module _ (inner : Inner Input) (good : Sound inner) where
       ended ds.1 r (var_decl (span (lo (seen s)) r.source.last) (kind (seen s)) (pack ds.0)) (GotStmt c s) q (either_one (leb let_kind (kind (seen s))), (seen ds.1, (seen (next s), v, (refl, b, tt, refl), h), z, refl)))))
 
   using_sure : (c : Code) (start : State Input) (awaits : Bool) (s : State Input) → ((ds : List Tree) (r : Input) → TakesWord (plain c) using_kind (seen s) (seen (next s)) → Declarators inner good c ds (seen (next s)) r → UsingBindings (plain c) awaits (children (pack ds)) (seen start) r)
-      → Sure s.commas (using_by lm inner c start awaits s) (GotStmt c start)
+      → Sure s.commas (using_by lm inner c (lo (seen start)) awaits s) (GotStmt c start)
   unfolding using_by
   using_sure c start awaits s f = word_sure c using_kind s _ _ (λ e b. then_sure s.commas (declarators_by lm inner c (next s)) _ _ _ (declarators_sure inner good c (next s)) (λ ds h. end_sure c (declarators_end (pack ds.0)) ds.1 _ _ (λ r q z.
       ended ds.1 r (using_decl (span (lo (seen start)) r.source.last) awaits (pack ds.0)) (GotStmt c start) q (refl, (seen ds.1, f ds.0 (seen ds.1) (e, b, tt, refl) h, z, refl)))))
 
-  function_sure_by : (c : Code) (start : State Input) (a : Bool) (s : State Input) → Async a (plain c) (seen start) (seen s) → Sure s.commas (function_decl_by lm inner c start a s) (GotStmt c start)
+  function_sure_by : (c : Code) (start : State Input) (a : Bool) (s : State Input) → Async a (plain c) (seen start) (seen s) → Sure s.commas (function_decl_by lm inner c (lo (seen start)) a s) (GotStmt c start)
   unfolding function_decl_by
   function_sure_by c start a s h = word_sure c function_kind s _ _ (λ e b. star_sure inner c (next s) _ _ (λ g r q t. at_commas s.commas r.commas _ (GotStmt c start) q
       (name_sure c r _ _ (λ i. then_sure r.commas (function_by lm inner c (lo (seen start)) g a (next r)) _ _ _ (function_sure inner good c (lo (seen start)) g a (next r)) (λ f w. let p = span (lo (seen start)) f.1.source.last in
@@ -67,7 +67,7 @@ module _ (inner : Inner Input) (good : Sound inner) where
   starts_plain : (s : State Input) → (kind (seen s) ≡ left_brace_kind → ⊥) → (kind (seen s) ≡ function_kind → ⊥) → (kind (seen s) ≡ class_kind → ⊥) → starts_async lm inner s ≡ false → (eqb (kind (seen s)) let_kind && eqb (kind2 (seen s)) left_bracket_kind) ≡ false → starts_expression_statement (seen s) ≡ true
   starts_plain s a b d e f = ap not (or_from _ _ (ne_eqb (kind (seen s)) left_brace_kind a) (or_from _ _ (ne_eqb (kind (seen s)) function_kind b) (or_from _ _ (ne_eqb (kind (seen s)) class_kind d) (or_from _ _ e f))))
 
-  labelled_sure : (c : Code) (start : State Input) (l : Tree) (s : State Input) → is_ident l ≡ true → Produces l (plain c) (seen start) (seen s) → kind (seen s) ≡ colon_kind → Sure s.commas (labelled_by lm inner c start l s) (GotStmt c start)
+  labelled_sure : (c : Code) (start : State Input) (l : Tree) (s : State Input) → is_ident l ≡ true → Produces l (plain c) (seen start) (seen s) → kind (seen s) ≡ colon_kind → Sure s.commas (labelled_by lm inner c (lo (seen start)) l s) (GotStmt c start)
   unfolding labelled_by
   labelled_sure c start l s i h e = then_sure s.commas (sub_by lm inner c true (next s)) _ _ _ (either_sure inner good c (next s)) (λ b k. done (labeled_stmt (span (lo (seen start)) b.1.source.last) l b.0, b.1) (GotStmt c start) (refl, (seen s, seen (next s), (i, h), (e, tt, refl), k, refl)))
 

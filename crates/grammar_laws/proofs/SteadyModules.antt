@@ -2,7 +2,7 @@
 use Rattle.std.proofs.Common.{ℕ, Bool, true, false, not, ◌&&◌, ◌||◌, List, [], ◌∷◌, ◌++◌, Option, Some, None}
 use Rattle.base_token.specs.Kinds.{left_brace_kind, right_brace_kind, comma_kind, mul_kind, str_kind, shebang_kind, default_kind, function_kind, with_kind, class_kind, export_kind, import_kind, as_kind, assert_kind, from_kind}
 use Rattle.tree_spec.specs.Tree.{Tree, import_default_specifier}
-use Rattle.grammar_spec.specs.Tokens.Input.{Code, kind, brk, content, is_word, in_list}
+use Rattle.grammar_spec.specs.Tokens.Input.{Code, kind, brk, content, is_word, in_list, lo}
 use Rattle.grammar_spec.specs.Tokens.Operators.{assignment_level}
 use Rattle.grammar_spec.specs.Reader.Source.{unexpected, Stream, State, input, past, operand, bound, at, ended, eat, eat_word, Inner}
 use Rattle.grammar_spec.specs.Reader.Expressions.{first}
@@ -52,37 +52,37 @@ module _ {S : Type 0} (m : Stream S) (few many : Inner S) (same : Steady few man
   unfolding star_import
   star_import_steady c s = agree_after (eat m mul_kind s) _ _ (λ r. agree_after (eat_word m c as_kind r) _ _ (λ a. agree_then _ _ _ _ (local_by_steady c a) (λ l. agree_same _)))
 
-  pub import_end_steady : (c : Code) (start : State S) (xs : List Tree) (s : State S) → Agrees (import_end m few c start xs s) (import_end m many c start xs s)
+  pub import_end_steady : (c : Code) (start : ℕ) (xs : List Tree) (s : State S) → Agrees (import_end m few c start xs s) (import_end m many c start xs s)
   unfolding import_end
   import_end_steady c start xs s = agree_after (eat_word m c from_kind s) _ _ (λ r. agree_then _ _ _ _ (source_by_steady c r) (λ f. agree_same _))
 
-  pub import_rest_steady : (c : Code) (start : State S) (xs : List Tree) (s : State S) → Agrees (import_rest m few c start xs s) (import_rest m many c start xs s)
+  pub import_rest_steady : (c : Code) (start : ℕ) (xs : List Tree) (s : State S) → Agrees (import_rest m few c start xs s) (import_rest m many c start xs s)
   unfolding import_rest
   import_rest_steady c start xs s = agree_if (at m mul_kind s) _ _ _ _ (agree_then _ _ _ _ (star_import_steady c s) (λ x. import_end_steady c start (xs ++ x.0 ∷ []) x.1)) (agree_after (eat m left_brace_kind s) _ _ (λ r. agree_then _ _ _ _ (specifiers_by_steady true c r) (λ ys. import_end_steady c start (xs ++ ys.0) ys.1)))
 
-  pub import_default_steady : (c : Code) (start : State S) (s : State S) → Agrees (import_default m few c start s) (import_default m many c start s)
+  pub import_default_steady : (c : Code) (start : ℕ) (s : State S) → Agrees (import_default m few c start s) (import_default m many c start s)
   unfolding import_default
   import_default_steady c start s = agree_then _ _ _ _ (local_by_steady c s) (λ l. agree_if (at m comma_kind l.1) _ _ _ _ (import_rest_steady c start (import_default_specifier (first m few s) l.0 ∷ []) (past m l.1)) (import_end_steady c start (import_default_specifier (first m few s) l.0 ∷ []) l.1))
 
   pub import_decl_by_steady : (c : Code) (s : State S) → Agrees (import_decl_by m few c s) (import_decl_by m many c s)
   unfolding import_decl_by
-  import_decl_by_steady c s = agree_after (eat_word m c import_kind s) _ _ (λ r. agree_if (at m str_kind r) _ _ _ _ (agree_then _ _ _ _ (source_by_steady c r) (λ f. agree_same _)) (agree_if (is_word (kind (input m r))) _ _ _ _ (import_default_steady c s r) (import_rest_steady c s [] r)))
+  import_decl_by_steady c s = agree_after (eat_word m c import_kind s) _ _ (λ r. agree_if (at m str_kind r) _ _ _ _ (agree_then _ _ _ _ (source_by_steady c r) (λ f. agree_same _)) (agree_if (is_word (kind (input m r))) _ _ _ _ (import_default_steady c (lo (input m s)) r) (import_rest_steady c (lo (input m s)) [] r)))
 
-  pub export_default_steady : (c : Code) (start : State S) (s : State S) → Agrees (export_default m few c start s) (export_default m many c start s)
+  pub export_default_steady : (c : Code) (start : ℕ) (s : State S) → Agrees (export_default m few c start s) (export_default m many c start s)
   unfolding export_default
-  export_default_steady c start s = agree_if (at m function_kind s) _ _ _ _ (agree_then _ _ _ _ (function_expr_by_steady m few many same c s false s) (λ d. agree_same _)) (agree_if (starts_async m few s) _ _ _ _ (agree_then _ _ _ _ (function_expr_by_steady m few many same c s true (past m s)) (λ d. agree_same _)) (agree_if (at m class_kind s) _ _ _ _ (agree_then _ _ _ _ (class_expr_by_steady m few many same c s) (λ d. agree_same _)) (agree_then _ _ _ _ (same.expr c assignment_level s) (λ e. agree_same _))))
+  export_default_steady c start s = agree_if (at m function_kind s) _ _ _ _ (agree_then _ _ _ _ (function_expr_by_steady m few many same c (lo (input m s)) false s) (λ d. agree_same _)) (agree_if (starts_async m few s) _ _ _ _ (agree_then _ _ _ _ (function_expr_by_steady m few many same c (lo (input m s)) true (past m s)) (λ d. agree_same _)) (agree_if (at m class_kind s) _ _ _ _ (agree_then _ _ _ _ (class_expr_by_steady m few many same c s) (λ d. agree_same _)) (agree_then _ _ _ _ (same.expr c assignment_level s) (λ e. agree_same _))))
 
-  pub export_star_steady : (c : Code) (start : State S) (s : State S) → Agrees (export_star m few c start s) (export_star m many c start s)
+  pub export_star_steady : (c : Code) (start : ℕ) (s : State S) → Agrees (export_star m few c start s) (export_star m many c start s)
   unfolding export_star
   export_star_steady c start s = agree_after (eat m mul_kind s) _ _ (λ r. agree_if (at m as_kind r) _ _ _ _ (agree_after (eat_word m c as_kind r) _ _ (λ a. agree_then _ _ _ _ (export_name_by_steady a) (λ n. agree_after (eat_word m c from_kind n.1) _ _ (λ f. agree_then _ _ _ _ (source_by_steady c f) (λ x. agree_same _))))) (agree_after (eat_word m c from_kind r) _ _ (λ f. agree_then _ _ _ _ (source_by_steady c f) (λ x. agree_same _))))
 
-  pub export_list_steady : (c : Code) (start : State S) (s : State S) → Agrees (export_list m few c start s) (export_list m many c start s)
+  pub export_list_steady : (c : Code) (start : ℕ) (s : State S) → Agrees (export_list m few c start s) (export_list m many c start s)
   unfolding export_list
   export_list_steady c start s = agree_after (eat m left_brace_kind s) _ _ (λ r. agree_then _ _ _ _ (specifiers_by_steady false c r) (λ xs. agree_if (at m from_kind xs.1) _ _ _ _ (agree_after (eat_word m c from_kind xs.1) _ _ (λ f. agree_then _ _ _ _ (source_by_steady c f) (λ x. agree_same _))) (agree_same _)))
 
   pub export_by_steady : (c : Code) (s : State S) → Agrees (export_by m few c s) (export_by m many c s)
   unfolding export_by
-  export_by_steady c s = agree_after (eat_word m c export_kind s) _ _ (λ r. agree_if (at m default_kind r) _ _ _ _ (agree_after (eat_word m c default_kind r) _ _ (λ d. export_default_steady c s (operand m d))) (agree_if (at m mul_kind r) _ _ _ _ (export_star_steady c s r) (agree_if (at m left_brace_kind r) _ _ _ _ (export_list_steady c s r) (agree_if (starts_declaration m few (in_list c) r) _ _ _ _ (agree_then _ _ _ _ (same.stmt (in_list c) r) (λ d. agree_same _)) (agree_same _)))))
+  export_by_steady c s = agree_after (eat_word m c export_kind s) _ _ (λ r. agree_if (at m default_kind r) _ _ _ _ (agree_after (eat_word m c default_kind r) _ _ (λ d. export_default_steady c (lo (input m s)) (operand m d))) (agree_if (at m mul_kind r) _ _ _ _ (export_star_steady c (lo (input m s)) r) (agree_if (at m left_brace_kind r) _ _ _ _ (export_list_steady c (lo (input m s)) r) (agree_if (starts_declaration m few (in_list c) r) _ _ _ _ (agree_then _ _ _ _ (same.stmt (in_list c) r) (λ d. agree_same _)) (agree_same _)))))
 
   pub item_by_steady : (modules : Bool) (c : Code) (s : State S) → Agrees (item_by m few modules c s) (item_by m many modules c s)
   unfolding item_by
@@ -96,14 +96,14 @@ module _ {S : Type 0} (m : Stream S) (few many : Inner S) (same : Steady few man
   unfolding program_step
   program_step_steady modules b s = agree_if (ended m s) _ _ _ _ (agree_same _) (program_item_steady modules b (operand m s))
 
-  pub program_rest_steady : (modules : Bool) (c : Code) (start : State S) (l : Option (List ℕ)) (s : State S) → Agrees (program_rest m few modules c start l s) (program_rest m many modules c start l s)
+  pub program_rest_steady : (modules : Bool) (c : Code) (start : ℕ) (l : Option (List ℕ)) (s : State S) → Agrees (program_rest m few modules c start l s) (program_rest m many modules c start l s)
   unfolding program_rest
   program_rest_steady modules c start l s = agree_then _ _ _ _ (agree_iterate (bound m) _ _ (λ x r. program_step_steady modules x r) (record { items = []; code = c; starts = true }) s) (λ b. agree_same _)
 
   pub program_by_steady : (modules : Bool) (c : Code) (s : State S) → Agrees (program_by m few modules c s) (program_by m many modules c s)
   unfolding program_by
-  program_by_steady modules c s = agree_if (at m shebang_kind s) _ _ _ _ (rw (same_line m few many (content (input m s))) (by_line (line_of m few (content (input m s))))) (program_rest_steady modules c s None s)
+  program_by_steady modules c s = agree_if (at m shebang_kind s) _ _ _ _ (rw (same_line m few many (content (input m s))) (by_line (line_of m few (content (input m s))))) (program_rest_steady modules c (lo (input m s)) None s)
     where
-      by_line : (o : Option (List ℕ)) → Agrees {A = Tree × State S} (elim o [ None ↦ unexpected m s | Some l ↦ program_rest m few modules c s (Some l) (past m s) ]) (elim o [ None ↦ unexpected m s | Some l ↦ program_rest m many modules c s (Some l) (past m s) ])
+      by_line : (o : Option (List ℕ)) → Agrees {A = Tree × State S} (elim o [ None ↦ unexpected m s | Some l ↦ program_rest m few modules c (lo (input m s)) (Some l) (past m s) ]) (elim o [ None ↦ unexpected m s | Some l ↦ program_rest m many modules c (lo (input m s)) (Some l) (past m s) ])
       by_line None = agree_same _
-      by_line (Some l) = program_rest_steady modules c s (Some l) (past m s)
+      by_line (Some l) = program_rest_steady modules c (lo (input m s)) (Some l) (past m s)

@@ -4,11 +4,12 @@ use Rattle.std.specs.Prelude.{Some, None, is_some, not, ◌&&◌, ◌==◌}
 use Rattle.std.proofs.lemmas.Bool.{cases_Bool, false≢true}
 use Rattle.std.proofs.lemmas.Bool.Decides.{nat_tests}
 use Rattle.lex_pieces.specs.Runs.{Each, run, after}
+use Rattle.lex_pieces.proofs.Passing.{after_more}
 use Rattle.lex_literal.specs.Escapes.{begins}
 use Rattle.lex_literal.specs.Reading.{lone_dollar}
 use Rattle.lex_literal.specs.Stops.{passes}
 use Rattle.lex_literal.specs.Templates.{is_bare, is_brace, bare_run, after_bare}
-use Rattle.lex_literal.proofs.RunLemmas.{run_after, run_each, after_more, after_none}
+use Rattle.lex_literal.proofs.RunLemmas.{run_after, run_each, after_none}
 
 -- the test of a bare character before others
 abbrev goes : ℕ → List ℕ → Bool

@@ -341,7 +341,7 @@ nine_is_decimal (c ∷ cs) e = grind (arith, nat_tests)
 octal_is_decimal : (c : ℕ) → is_octal c ≡ true → is_decimal c ≡ true
 octal_is_decimal c e = grind (arith, nat_tests)
 
-low_is_octal : (c : ℕ) → is_low_octal c ≡ true → is_octal c ≡ true
+pub low_is_octal : (c : ℕ) → is_low_octal c ≡ true → is_octal c ≡ true
 low_is_octal c e = grind (arith, nat_tests)
 
 last_none : (low : Bool) (n : ℕ) (r : List ℕ) → (low ≡ true → begins is_octal r ≡ false) → last_octal low (n, r) ≡ (n, r)

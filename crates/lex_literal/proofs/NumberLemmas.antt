@@ -1,8 +1,8 @@
 -- Numeric literals as the code reads them are those of the definition.
-use Rattle.std.proofs.Common.{◌≡◌, ℕ, zero, suc, ◌<◌, Bool, true, false, cond, List, [], ◌∷◌, ◌++◌, get_or, length, refl, sym, ap, ◌∙◌, arith, IsUtf8}
+use Rattle.std.proofs.Common.{◌≡◌, ℕ, zero, suc, ◌<◌, true, false, cond, List, [], ◌∷◌, ◌++◌, get_or, length, refl, sym, ap, ◌∙◌, arith, IsUtf8}
 use Rattle.std.specs.Prelude.{◌&&◌, ◌==◌, Some, None}
 use Rattle.std.specs.Str.{IsAscii, chars}
-use Rattle.std.proofs.lemmas.Bool.{false≢true}
+use Rattle.std.proofs.lemmas.Bool.{false≢true, false_from_ne_true, and_parts}
 use Rattle.std.proofs.lemmas.Bool.Decides.{nat_tests}
 use Rattle.std.proofs.lemmas.Str.{encodes-IsAscii, encodes-chars, IsUtf8-from_ascii}
 use Rattle.base_token.specs.Numbers.{number_of, spells_octal, spells_non_octal, unsigned, plain, before, is_mark}
@@ -10,7 +10,6 @@ use Rattle.base_token.specs.declared.error.SyntaxError.TheVariants.{ExpectedDigi
 use Rattle.memchr.specs.Find.{IsFirstByte, is_byte}
 use Rattle.lex_literal.specs.Escapes.{begins, is_decimal}
 use Rattle.lex_literal.specs.Numbers.{flaw, missing_digits, barred_next, is_zero, is_some, takes_exponent, is_prefix_letter, is_exponent_mark, legacy_of_number}
-use Rattle.lex_literal.proofs.StopLemmas.{not_true}
 use Rattle.lex_literal.proofs.StateLemmas.{by_test, digit, spelled, spelled_is, decimal_spelled, decimal_by, behind_zero}
 
 -- ---- faults
@@ -51,10 +50,6 @@ legacy_zero own (d ∷ cs) e h b =
     ∙ by_test (is_mark 101 d) (legacy_of_number (48 ∷ d ∷ cs) ≡ None) (λ i. rw (h, i) refl)
     (λ i. by_test (is_mark 46 d) (legacy_of_number (48 ∷ d ∷ cs) ≡ None) (λ j. rw (h, i, j) refl) (λ j. rw (h, i, j, b) refl)))
 
-and_first : (a b : Bool) → (a && b) ≡ true → a ≡ true
-and_first true b h = refl
-and_first false b h = h
-
 pub legacy_decimal : (own ds : List ℕ) → own ≡ 48 ∷ ds → spells_octal ds ≡ false → begins is_decimal ds ≡ true → is_some (number_of own) ≡ true → Some LegacyDecimal ≡ legacy_of_number own
 legacy_decimal own [] e h b n = absurd (false≢true b)
 legacy_decimal own (d ∷ cs) e h b n =
@@ -62,7 +57,7 @@ legacy_decimal own (d ∷ cs) e h b n =
     let whole : spelled (48 ∷ d ∷ cs) ≡ true = sym (spelled_is (48 ∷ d ∷ cs)) ∙ ap (λ l. is_some (number_of l)) (sym e) ∙ n in
     let decimal : decimal_spelled (48 ∷ d ∷ cs) ≡ true = rw (f.letter, h) at whole in
     let parts : decimal_by (λ l. spells_non_octal (d ∷ l)) cs ≡ true = sym (behind_zero d cs f.point f.exp) ∙ decimal in
-    let first : spells_non_octal (d ∷ before 46 (before 101 cs)) ≡ true = and_first _ _ (and_first _ _ parts) in
+    let first : spells_non_octal (d ∷ before 46 (before 101 cs)) ≡ true = (and_parts _ _ (and_parts _ _ parts).0).0 in
     sym (ap legacy_of_number e ∙ rw (h, f.exp, f.point, first) refl)
 
 -- ---- digits of big integers
@@ -93,4 +88,4 @@ ascii_chars s u h = sym (encodes-IsAscii (chars s) h) ∙ encodes-chars s u
 
 -- where no separator is found
 pub separated_none : (l : List ℕ) → IsFirstByte (is_byte 95) l None → plain l ≡ l
-separated_none l h = no_separator l (λ k i. not_true (get_or l k 0 == 95) (h k (omega arith) i))
+separated_none l h = no_separator l (λ k i. false_from_ne_true (get_or l k 0 == 95) (h k (omega arith) i))

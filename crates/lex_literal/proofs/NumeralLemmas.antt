@@ -4,7 +4,8 @@ use Rattle.std.specs.Prelude.{◌&&◌, ◌||◌, ◌==◌, Option, Some, None, 
 use Rattle.std.specs.Str.{IsAscii}
 use Rattle.std.proofs.lemmas.Bool.{false≢true, and_parts}
 use Rattle.std.proofs.lemmas.Bool.Decides.{nat_tests, Decides-eqb}
-use Rattle.std.proofs.lemmas.List.{append_cancel_right}
+use Rattle.std.proofs.lemmas.List.{append_cancel_right, nil_from_length}
+use Rattle.std.proofs.lemmas.Option.{same_Some}
 use Rattle.base_token.specs.Numbers.{SpecNumber, number_of, plain, prefix_radix, past_first, spells_digits}
 use Rattle.lex_pieces.specs.Runs.{Ends}
 use Rattle.base_token.specs.declared.error.Error.{Error}
@@ -57,7 +58,7 @@ big_is_whole (s.Prefixed x true) radix h = refl
 big_is_whole (s.Prefixed x false) radix h = none_some h
 
 -- no number goes on with an `n`
-n_stops : (p : State) → step p 110 ≡ None
+pub n_stops : (p : State) → step p 110 ≡ None
 unfolding step
 n_stops s.Start = refl
 n_stops s.Zero = refl
@@ -115,14 +116,10 @@ record SameParts (xs ys us vs : List ℕ) : Type 0 where
   own : xs ≡ ys
   rest : us ≡ vs
 
-no_more : (zs : List ℕ) → length zs ≡ 0 → zs ≡ []
-no_more [] h = refl
-no_more (z ∷ zs) h = absurd (omega arith)
-
 same_parts : (xs ys us vs : List ℕ) → xs ++ us ≡ ys ++ vs → length xs ≡ length ys → SameParts xs ys us vs
 same_parts xs ys us vs e h =
     let t = tail xs ys us vs e (omega arith) in
-    let none : t.between ≡ [] = no_more t.between (omega (arith, ap length t.long, length-append ys t.between)) in
+    let none : t.between ≡ [] = nil_from_length t.between (omega (arith, ap length t.long, length-append ys t.between)) in
     record {
       own = t.long ∙ ap (λ l. ys ++ l) none ∙ append-nil ys;
       rest = sym (t.rest ∙ ap (λ l. l ++ us) none);
@@ -135,9 +132,6 @@ record BigFront (text own rest t more : List ℕ) (q : State) (radix : ℕ) : Ty
   digits : t ≡ own
   behind : rest ≡ 110 ∷ more
   taken : big_radix q ≡ Some radix
-
-some_is : {A : Type 0} {x y : A} → Some x ≡ Some y → x ≡ y
-some_is e = cc
 
 big_front : (text own rest t digits more : List ℕ) (q : State) (radix : ℕ) → IsFront text q own rest → big_of t ≡ Some (radix, digits)
     → text ≡ (t ++ 110 ∷ []) ++ more → BigFront text own rest t more q radix
@@ -153,7 +147,7 @@ big_front text own rest t digits more q radix f h e =
         → BigFront text own rest t more q radix
     at [] l i j p k m =
         let same : Some p ≡ Some q = sym k ∙ ap (reach s.Start) (sym (append-nil t)) ∙ j in
-        record { digits = sym (l ∙ append-nil t); behind = sym i; taken = ap big_radix (sym (some_is same)) ∙ m }
+        record { digits = sym (l ∙ append-nil t); behind = sym i; taken = ap big_radix (sym (same_Some _ _ same)) ∙ m }
     at (c ∷ z) l i j p k m =
         let first : 110 ≡ c = cc in
         none_some (sym (no_reach t z) ∙ ap (λ (d : ℕ). reach s.Start (t ++ d ∷ z)) first ∙ j)
@@ -192,14 +186,14 @@ no_numeral m own text rest e h l b o other r x =
     not_ended rest b (subst (Ends is_barred) (sym same.rest) x.ended)
 
 one_meaning : (m o : Meaning) (own : List ℕ) → Spells m own → Spells o own → m ≡ o
-one_meaning (Number v) (Number w) own h i = ap Number (some_is (sym h ∙ i))
+one_meaning (Number v) (Number w) own h i = ap Number (same_Some _ _ (sym h ∙ i))
 one_meaning (Number v) (BigInt radix digits) own h i =
     absurd (false≢true (sym (no_number i.0 []) ∙ ap (λ l. is_some (number_of l)) (sym i.1) ∙ ap is_some h))
 one_meaning (BigInt radix digits) (Number v) own h i =
     absurd (false≢true (sym (no_number h.0 []) ∙ ap (λ l. is_some (number_of l)) (sym h.1) ∙ ap is_some i))
 one_meaning (BigInt radix digits) (BigInt other more) own h i =
     let text : h.0 ≡ i.0 = append_cancel_right h.0 i.0 (110 ∷ []) (sym h.1 ∙ i.1) in
-    let both : (radix, digits) ≡ (other, more) = some_is (sym h.2 ∙ ap big_of text ∙ i.2) in
+    let both : (radix, digits) ≡ (other, more) = same_Some _ _ (sym h.2 ∙ ap big_of text ∙ i.2) in
     ap (λ (x : ℕ × List ℕ). BigInt x.0 x.1) both
 
 pub one_number : OneNumber
@@ -243,11 +237,11 @@ flaw_n own rest = rw (zero_n own, exponent_n own) refl
 digits_by : (o : Option ℕ) (text : List ℕ) (x : ℕ × List ℕ) → big_by o text ≡ Some x → x.1 ≡ plain (behind_prefix o text)
 digits_by None text x e =
     by_test (spells_big_decimal text) (x.1 ≡ plain text)
-    (λ b. let h = rw b at e in sym (ap (λ (y : ℕ × List ℕ). y.1) (some_is h)))
+    (λ b. let h = rw b at e in sym (ap (λ (y : ℕ × List ℕ). y.1) (same_Some _ _ h)))
     (λ b. let h = rw b at e in none_some h)
 digits_by (Some radix) text x e =
     by_test (spells_digits radix (past_first (past_first text))) (x.1 ≡ plain (past_first (past_first text)))
-    (λ b. let h = rw b at e in sym (ap (λ (y : ℕ × List ℕ). y.1) (some_is h)))
+    (λ b. let h = rw b at e in sym (ap (λ (y : ℕ × List ℕ). y.1) (same_Some _ _ h)))
     (λ b. let h = rw b at e in none_some h)
 
 big_of_digits : (text : List ℕ) (x : ℕ × List ℕ) → big_of text ≡ Some x → x.1 ≡ plain (behind_prefix (prefix_radix text) text)
@@ -256,7 +250,7 @@ big_of_digits text x e = digits_by (prefix_radix text) text x e
 
 radix_found : (o : Option (ℕ × List ℕ)) (radix : ℕ) → radix_in o ≡ Some radix → (digits : List ℕ) × (o ≡ Some (radix, digits))
 radix_found None radix e = none_some e
-radix_found (Some x) radix e = let f : x.0 ≡ radix = some_is e in (x.1, ap (λ (n : ℕ). Some (n, x.1)) f)
+radix_found (Some x) radix e = let f : x.0 ≡ radix = same_Some _ _ e in (x.1, ap (λ (n : ℕ). Some (n, x.1)) f)
 
 pub big_spelled : (text own rest : List ℕ) (q : State) (radix : ℕ) → IsFront text q own rest → big_radix q ≡ Some radix
     → Spells (BigInt radix (plain (behind_prefix (prefix_radix own) own))) (own ++ 110 ∷ [])
@@ -375,13 +369,13 @@ start_more (c ∷ d ∷ ds) ys h = h
 -- behind a dot alone
 dot_first : (cs : List ℕ) (p : State) → reach (s.Fraction false) cs ≡ Some p → is_whole p ≡ true → begins is_decimal cs ≡ true
 unfolding step
-dot_first [] p h w = let same : s.Fraction false ≡ p = some_is h in absurd (false≢true (ap is_whole same ∙ w))
+dot_first [] p h w = let same : s.Fraction false ≡ p = same_Some _ _ h in absurd (false≢true (ap is_whole same ∙ w))
 dot_first (d ∷ ds) p h w = by_test (is_decimal d) (is_decimal d ≡ true) (λ e. e)
     (λ e. let k : None ≡ Some p = sym (ap (λ b. by_next (cond b (Some (s.Fraction true)) None) None (λ q. reach q ds)) e) ∙ h in none_some k)
 
 reached_start : (own : List ℕ) (p : State) → reach s.Start own ≡ Some p → is_whole p ≡ true → is_number_start own ≡ true
 unfolding step
-reached_start [] p h w = let same : s.Start ≡ p = some_is h in absurd (false≢true (ap is_whole same ∙ w))
+reached_start [] p h w = let same : s.Start ≡ p = same_Some _ _ h in absurd (false≢true (ap is_whole same ∙ w))
 reached_start (c ∷ cs) p h w = by_test (is_decimal c) (is_number_start (c ∷ cs) ≡ true)
     (λ d. rw d refl)
     (λ d. by_test (c == 46) (is_number_start (c ∷ cs) ≡ true)

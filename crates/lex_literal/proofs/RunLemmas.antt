@@ -1,13 +1,15 @@
 -- A run of characters is found by bytes, where a test does not tell apart the bytes from 128 on.
-use Rattle.std.proofs.Common.{◌≡◌, ℕ, ◌+◌, ◌/◌, ◌<◌, ◌≤◌, ⊎_elim, Bool, true, false, cond, ltb, ◌&&◌, take, drop, List, [], ◌∷◌, ◌++◌, length, length-append, refl, sym, ap, subst, ◌∙◌, arith}
+use Rattle.std.proofs.Common.{◌≡◌, ℕ, ◌+◌, ◌/◌, ◌<◌, ◌≤◌, ⊎_elim, Bool, true, false, cond, ltb, take, drop, List, [], ◌∷◌, ◌++◌, length, length-append, refl, sym, ap, subst, ◌∙◌, arith}
 use Rattle.std.specs.List.{prefix_len}
 use Rattle.std.specs.Str.{IsCharBoundary, IsUtf8, chars, encode_utf8_all}
-use Rattle.std.proofs.lemmas.Bool.{cases_lt, cases_Bool, false≢true}
+use Rattle.std.proofs.lemmas.Bool.{cases_lt, cases_Bool}
 use Rattle.std.proofs.lemmas.Bool.Decides.{nat_tests}
 use Rattle.std.proofs.lemmas.Str.{IsCharBoundary-at_seam, chars-encodes, encode_ascii, encodes-append, encodes-chars, scalars-chars}
 use Rattle.std.proofs.Math.Seq.{take-append_seam, drop-append_seam}
-use lib.Utf8.{encode, next, scalar, scalars}
+use lib.Utf8.{encode, next, scalars}
 use Rattle.lex_pieces.specs.Runs.{Each, run, after}
+use Rattle.lex_pieces.proofs.Wide.{encode_two, encode_three, encode_four, scalars_parts}
+use Rattle.lex_pieces.proofs.Passing.{run_more, after_more}
 
 -- bytes from 128 on
 abbrev pub High : List ℕ → Type 0
@@ -19,18 +21,6 @@ pub record IsWide (c : ℕ) (b : ℕ) (bs : List ℕ) : Type 0 where
   pub first : 128 ≤ b
   pub others : High bs
 
-two : (c : ℕ) → ltb c 128 ≡ false → ltb c 2048 ≡ true → encode c ≡ (192 + c / 64) ∷ next c ∷ []
-unfolding encode
-two c e f = rw e (rw f refl)
-
-three : (c : ℕ) → ltb c 128 ≡ false → ltb c 2048 ≡ false → ltb c 65536 ≡ true → encode c ≡ (224 + c / 4096) ∷ next (c / 64) ∷ next c ∷ []
-unfolding encode
-three c e f g = rw e (rw f (rw g refl))
-
-four : (c : ℕ) → ltb c 128 ≡ false → ltb c 2048 ≡ false → ltb c 65536 ≡ false → encode c ≡ (240 + c / 262144) ∷ next (c / 4096) ∷ next (c / 64) ∷ next c ∷ []
-unfolding encode
-four c e f g = rw e (rw f (rw g refl))
-
 pub wide : (c : ℕ) → 128 ≤ c → (b : ℕ) × (bs : List ℕ) × IsWide c b bs
 wide c h =
     let e : ltb c 128 ≡ false = grind (arith, nat_tests) in
@@ -38,18 +28,18 @@ wide c h =
     (λ (short : c < 2048). (
       192 + c / 64,
       next c ∷ [],
-      record { whole = two c e (grind (arith, nat_tests)); first = omega arith; others = (omega arith, tt) },
+      record { whole = encode_two c e (grind (arith, nat_tests)); first = omega arith; others = (omega arith, tt) },
     ))
     (λ (long : 2048 ≤ c). let f : ltb c 2048 ≡ false = grind (arith, nat_tests) in ⊎_elim
     (λ (short : c < 65536). (
       224 + c / 4096,
       next (c / 64) ∷ next c ∷ [],
-      record { whole = three c e f (grind (arith, nat_tests)); first = omega arith; others = (omega arith, (omega arith, tt)) },
+      record { whole = encode_three c e f (grind (arith, nat_tests)); first = omega arith; others = (omega arith, (omega arith, tt)) },
     ))
     (λ (long : 65536 ≤ c). (
       240 + c / 262144,
       next (c / 4096) ∷ next (c / 64) ∷ next c ∷ [],
-      record { whole = four c e f (grind (arith, nat_tests)); first = omega arith; others = (omega arith, (omega arith, (omega arith, tt))) },
+      record { whole = encode_four c e f (grind (arith, nat_tests)); first = omega arith; others = (omega arith, (omega arith, (omega arith, tt))) },
     ))
     (cases_lt c 65536))
     (cases_lt c 2048)
@@ -93,12 +83,6 @@ module _ (p : ℕ → Bool) where
       ap (λ l. prefix_len p (l ++ ds)) w.2.whole ∙ rw at refl)
       (cases_lt c 128)
 
-  pub run_more : (c : ℕ) (cs : List ℕ) → p c ≡ true → run p (c ∷ cs) ≡ c ∷ run p cs
-  run_more c cs e = ap (λ t. cond t (c ∷ run p cs) []) e
-
-  pub after_more : (c : ℕ) (cs : List ℕ) → p c ≡ true → after p (c ∷ cs) ≡ after p cs
-  after_more c cs e = ap (λ t. cond t (after p cs) (c ∷ cs)) e
-
   pub run_none : (c : ℕ) (cs : List ℕ) → p c ≡ false → run p (c ∷ cs) ≡ []
   run_none c cs e = ap (λ t. cond t (c ∷ run p cs) []) e
 
@@ -109,7 +93,7 @@ module _ (p : ℕ → Bool) where
   pub run_after : (cs : List ℕ) → cs ≡ run p cs ++ after p cs
   run_after [] = refl
   run_after (c ∷ cs) = ⊎_elim
-      (λ (e : p c ≡ true). ap (λ (l : List ℕ). c ∷ l) (run_after cs) ∙ sym (ap (λ t. t ++ after p (c ∷ cs)) (run_more c cs e) ∙ ap (λ t. c ∷ (run p cs ++ t)) (after_more c cs e)))
+      (λ (e : p c ≡ true). ap (λ (l : List ℕ). c ∷ l) (run_after cs) ∙ sym (ap (λ t. t ++ after p (c ∷ cs)) (run_more p c cs e) ∙ ap (λ t. c ∷ (run p cs ++ t)) (after_more p c cs e)))
       (λ (e : p c ≡ false). sym (ap (λ t. t ++ after p (c ∷ cs)) (run_none c cs e) ∙ after_none c cs e))
       (cases_Bool (p c))
 
@@ -121,19 +105,11 @@ module _ (p : ℕ → Bool) where
         arith,
         prefix_all (encode c) (encode_utf8_all cs) (char_passes f c e),
         run_bytes f cs,
-        ap (λ l. length (encode_utf8_all l)) (run_more c cs e),
+        ap (λ l. length (encode_utf8_all l)) (run_more p c cs e),
         length-append (encode c) (encode_utf8_all (run p cs)),
       ))
       (λ (e : p c ≡ false). char_stops f c (encode_utf8_all cs) e ∙ sym (ap (λ l. length (encode_utf8_all l)) (run_none c cs e)))
       (cases_Bool (p c))
-
-pub scalars_parts : (xs ys : List ℕ) → scalars (xs ++ ys) ≡ true → (scalars xs ≡ true) × (scalars ys ≡ true)
-scalars_parts [] ys h = (refl, h)
-scalars_parts (x ∷ xs) ys h =
-    (elim (scalar x) as (λ t. (t && scalars (xs ++ ys)) ≡ true → ((t && scalars xs) ≡ true) × (scalars ys ≡ true)) [
-      | true ↦ λ e. scalars_parts xs ys e
-      | false ↦ λ e. absurd (false≢true e)
-    ]) h
 
 -- Where a text is cut behind the run.
 pub record Cut (p : ℕ → Bool) (text : List ℕ) (n : ℕ) : Type 0 where

@@ -7,11 +7,12 @@ use Rattle.std.proofs.lemmas.Bool.Decides.{nat_tests}
 use Rattle.std.proofs.lemmas.Str.{IsCharBoundary-at_seam, chars-encodes, encode_ascii, encodes-append, encodes-chars, encodes-IsAscii, scalars-chars}
 use Rattle.std.proofs.Math.Seq.{take-append_seam, drop-append_seam}
 use lib.Utf8.{scalars}
+use Rattle.lex_pieces.proofs.Wide.{scalars_parts}
 use Rattle.lex_literal.specs.declared.number_state.Radix.TheVariants.{Binary, Octal, Hexadecimal}
 use Rattle.lex_literal.specs.declared.number_state.State.{State}
 use Rattle.lex_literal.specs.declared.number_state.State.TheVariants as s
 use Rattle.lex_literal.specs.NumberSteps.{Next, Last, IsFront, step, scan, reach, kept, is_whole, big_radix, by_next}
-use Rattle.lex_literal.proofs.RunLemmas.{wide, scalars_parts}
+use Rattle.lex_literal.proofs.RunLemmas.{wide}
 use Rattle.lex_literal.proofs.StateLemmas.{by_test, left, big_left, goes, ends, big_goes, big_ends}
 
 -- ---- the state behind a text

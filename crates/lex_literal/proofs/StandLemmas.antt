@@ -5,6 +5,7 @@ use Rattle.std.specs.Char.{is_digit, is_ascii_alphabetic}
 use Rattle.std.specs.List.{list_all}
 use Rattle.std.proofs.lemmas.Bool.{cases_Bool, cases_lt, false≢true, and_parts, eqb-true}
 use Rattle.std.proofs.lemmas.Bool.Decides.{nat_tests}
+use Rattle.std.proofs.lemmas.Option.{same_Some}
 use Rattle.base_token.specs.Numbers.{SpecNumber, number_of, is_legacy_octal, spells_octal}
 use Rattle.unicode_ident.proofs.IdentLemmas.{is_xid_start-ascii}
 use Rattle.lex_pieces.specs.Runs.{Ends}
@@ -17,7 +18,7 @@ use Rattle.lex_literal.specs.Numbers.{Longest, big_of, is_barred, is_n, is_some}
 use Rattle.lex_literal.specs.NumberSteps.{IsFront, Next, step, reach, by_next, is_whole, big_radix, radix_value, is_e, step_exponent, step_point, step_prefix, step_zero, step_octal, step_prefixed}
 use Rattle.lex_literal.proofs.ScanLemmas.{by_step, reach_left, reach_big, reach_more}
 use Rattle.lex_literal.proofs.StateLemmas.{spelled_is, radix_in}
-use Rattle.lex_literal.proofs.NumeralLemmas.{number_longest, big_longest}
+use Rattle.lex_literal.proofs.NumeralLemmas.{number_longest, big_longest, n_stops}
 use Rattle.lex_literal.specs.Standing.{is_digit_or_separator, takes_point, is_point, MayFollow, NumberStands, BigIntStands}
 
 -- ---- what is spelled is reached
@@ -249,15 +250,12 @@ module _ (c : ℕ) where
   back (s.Exponent false) = far_digit (s.Exponent true) _ refl tt
   back (s.Prefixed radix b) = prefixed_back radix b
 
-some_is : {A : Type 0} {x y : A} → Some x ≡ Some y → x ≡ y
-some_is e = cc
-
 none_some : {A B : Type 0} {x : A} → None ≡ Some x → B
 none_some e = cc
 
 all_digits : (cs : List ℕ) (p q : State) → reach p cs ≡ Some q → integral q ≡ true
     → (integral p ≡ true) × (list_all is_digit_or_separator cs ≡ true)
-all_digits [] p q h i = (ap integral (some_is h) ∙ i, refl)
+all_digits [] p q h i = (ap integral (same_Some _ _ h) ∙ i, refl)
 all_digits (c ∷ cs) p q h i =
     (by_step (step p c) (λ o. Back c (integral p) o → by_next o None (λ r. reach r cs) ≡ Some q → (integral p ≡ true) × (list_all is_digit_or_separator (c ∷ cs) ≡ true))
     (λ _ b e. none_some e)
@@ -302,7 +300,7 @@ octal_reached (z ∷ (c ∷ cs)) h =
 no_octal_text : (text : List ℕ) (q : State) → reach s.Start text ≡ Some q → pointed q ≡ true → is_legacy_octal text ≡ false
 no_octal_text text q h p = ⊎_elim
     (λ (e : is_legacy_octal text ≡ true).
-    absurd (false≢true (ap pointed (some_is (sym (octal_reached text e) ∙ h)) ∙ p)))
+    absurd (false≢true (ap pointed (same_Some _ _ (sym (octal_reached text e) ∙ h)) ∙ p)))
     (λ (e : is_legacy_octal text ≡ false). e)
     (cases_Bool (is_legacy_octal text))
 
@@ -393,27 +391,6 @@ number_stands v text rest h may =
     record { parts = refl; spelled = h; longest = longest text rest r.state r.there r.whole may; ended = may.0 }
 
 -- ---- big integers
-
-n_stops : (q : State) → step q 110 ≡ None
-unfolding step
-n_stops s.Start = refl
-n_stops s.Zero = refl
-n_stops s.LegacyOctal = refl
-n_stops s.LegacyDecimal = refl
-n_stops (s.Integer true) = refl
-n_stops (s.Integer false) = refl
-n_stops s.Point = refl
-n_stops (s.Fraction true) = refl
-n_stops (s.Fraction false) = refl
-n_stops s.Mark = refl
-n_stops (s.Exponent true) = refl
-n_stops (s.Exponent false) = refl
-n_stops (s.Prefixed Binary true) = refl
-n_stops (s.Prefixed Octal true) = refl
-n_stops (s.Prefixed Hexadecimal true) = refl
-n_stops (s.Prefixed Binary false) = refl
-n_stops (s.Prefixed Octal false) = refl
-n_stops (s.Prefixed Hexadecimal false) = refl
 
 record BigReached (text : List ℕ) : Type 0 where
   state : State

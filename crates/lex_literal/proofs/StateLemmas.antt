@@ -4,6 +4,7 @@ use Rattle.std.specs.Prelude.{◌&&◌, ◌||◌, ◌==◌, Option, Some, None}
 use Rattle.std.specs.Char.{is_digit}
 use Rattle.std.specs.List.{list_all}
 use Rattle.std.proofs.lemmas.Bool.Decides.{nat_tests, Decides-eqb}
+use Rattle.std.proofs.Math.Bool.{and-true, or-false}
 use Rattle.base_token.specs.Numbers.{number_of, number_by, decimal_number, goes_on, spells_digits, spells_integer, spells_non_octal, spells_mantissa, spells_exponent, is_legacy_octal, before, after, is_mark, none_left, prefix_radix, radix_of_letter, past_first, unsigned, plain}
 use Rattle.lex_literal.specs.declared.number_state.Radix.{Radix}
 use Rattle.lex_literal.specs.declared.number_state.State.{State}
@@ -88,14 +89,6 @@ module _ (P : ℕ → Type 0) where
 
 -- ---- what a number is, as a test
 
-and_true : (b : Bool) → (b && true) ≡ b
-and_true true = refl
-and_true false = refl
-
-and_false : (b : Bool) → (b && false) ≡ false
-and_false true = refl
-and_false false = refl
-
 -- the fraction of a mantissa that has an integer
 abbrev pub fraction_ok : Option (List ℕ) → Bool
 fraction_ok None = true
@@ -119,22 +112,18 @@ if_some : {A : Type 0} (b : Bool) (x : A) (o : Option A) → is_some (cond b (So
 if_some true x o = refl
 if_some false x o = refl
 
-or_false : (b : Bool) → (b || false) ≡ b
-or_false true = refl
-or_false false = refl
-
 spelled_by_is : (o : Option ℕ) (text : List ℕ) → is_some (number_by o text) ≡ spelled_by o text
 spelled_by_is None text =
     if_some (is_legacy_octal text) _ (decimal_number text)
-    ∙ ap (λ b. is_legacy_octal text || b) (if_some (decimal_spelled text) _ None ∙ or_false (decimal_spelled text))
-spelled_by_is (Some radix) text = if_some (spells_digits radix (past_first (past_first text))) _ None ∙ or_false _
+    ∙ ap (λ b. is_legacy_octal text || b) (if_some (decimal_spelled text) _ None ∙ or-false (decimal_spelled text))
+spelled_by_is (Some radix) text = if_some (spells_digits radix (past_first (past_first text))) _ None ∙ or-false _
 
 pub spelled_is : (text : List ℕ) → is_some (number_of text) ≡ spelled text
 unfolding number_of
 spelled_is text = spelled_by_is (prefix_radix text) text
 
 mantissa_first : (c : ℕ) (cs : List ℕ) (f : Option (List ℕ)) → spells_mantissa (c ∷ cs) f ≡ (spells_integer (c ∷ cs) && fraction_ok f)
-mantissa_first c cs None = sym (and_true (spells_integer (c ∷ cs)))
+mantissa_first c cs None = sym (and-true (spells_integer (c ∷ cs)))
 mantissa_first c cs (Some f) = refl
 
 no_prefix : (c : ℕ) (cs : List ℕ) → (c == 48) ≡ false → prefix_radix (c ∷ cs) ≡ None
@@ -193,7 +182,7 @@ unfolding step
 goes_zero cs c = by_char (Goes s.Zero cs) c
     (λ d h. by_test (is_octal d) (Goes s.Zero cs d)
     (λ e. rw (h.letter, behind_zero d cs h.point h.exp, h.dec, e) refl)
-    (λ e. rw (h.letter, behind_zero d cs h.point h.exp, h.dec, e) (rw and_true refl)))
+    (λ e. rw (h.letter, behind_zero d cs h.point h.exp, h.dec, e) (rw and-true refl)))
     (rw (behind_zero 95 cs refl refl) refl)
     refl
     refl
@@ -205,7 +194,7 @@ unfolding step
 goes_octal cs c = by_char (Goes s.LegacyOctal cs) c
     (λ d h. by_test (is_octal d) (Goes s.LegacyOctal cs d)
     (λ e. rw (decimal_first spells_non_octal d cs h.point h.exp, h.dec, e) refl)
-    (λ e. rw (decimal_first spells_non_octal d cs h.point h.exp, h.dec, e) (rw and_true refl)))
+    (λ e. rw (decimal_first spells_non_octal d cs h.point h.exp, h.dec, e) (rw and-true refl)))
     refl
     refl
     refl

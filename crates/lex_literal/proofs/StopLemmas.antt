@@ -1,8 +1,8 @@
 -- The run up to the first of four bytes, by two searches.
-use Rattle.std.proofs.Common.{◌≡◌, ℕ, ◌<◌, ◌≤◌, ⊎_elim, Bool, true, false, List, length, length-take, take, get_or, refl, sym, ap, ◌∙◌, arith, IsUtf8, subst}
+use Rattle.std.proofs.Common.{◌≡◌, ℕ, ◌<◌, ◌≤◌, ⊎_elim, Bool, true, false, List, length, length-take, take, get_or, sym, ap, ◌∙◌, arith, IsUtf8, subst}
 use Rattle.std.specs.Prelude.{Option, Some, None, unwrap_or}
 use Rattle.std.specs.List.{prefix_len}
-use Rattle.std.proofs.lemmas.Bool.{cases_lt}
+use Rattle.std.proofs.lemmas.Bool.{cases_lt, false_from_ne_true}
 use Rattle.std.proofs.lemmas.Bool.Decides.{nat_tests}
 use Rattle.std.proofs.lemmas.List.{get_or-take}
 use Rattle.std.proofs.lemmas.List.Sums.{prefix_len_is}
@@ -16,19 +16,15 @@ record Len (test : ℕ → Bool) (hay : List ℕ) (n : ℕ) : Type 0 where
   before : (k : ℕ) → k < n → test (get_or hay k 0) ≡ false
   at : n < length hay → test (get_or hay n 0) ≡ true
 
-pub not_true : (b : Bool) → (b ≡ true → ⊥) → b ≡ false
-not_true true h = absurd (h refl)
-not_true false h = refl
-
 len : (test : ℕ → Bool) (hay : List ℕ) (o : Option ℕ) → IsFirstByte test hay o → Len test hay (unwrap_or o (length hay))
 len test hay None h = record {
   within = omega arith;
-  before = λ k l. not_true _ (h k (omega arith) l);
+  before = λ k l. false_from_ne_true _ (h k (omega arith) l);
   at = λ l. absurd (omega arith);
 }
 len test hay (Some n) h = record {
   within = let x = h.0.high in omega arith;
-  before = λ k l. not_true _ (h.0.before k (omega arith) l);
+  before = λ k l. false_from_ne_true _ (h.0.before k (omega arith) l);
   at = λ l. h.1;
 }
 

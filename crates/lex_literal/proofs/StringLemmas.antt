@@ -5,35 +5,22 @@ use Rattle.std.specs.Char.Escape.{encode_utf16}
 use Rattle.std.specs.List.{flat_map, list_any}
 use Rattle.std.proofs.lemmas.Bool.{cases_Bool, false≢true}
 use Rattle.std.proofs.lemmas.Bool.Decides.{nat_tests}
+use Rattle.std.proofs.Math.Bool.{or-false}
 use Rattle.base_token.specs.declared.error.Error.{Error}
 use Rattle.base_token.specs.Utf16.{utf16}
 use Rattle.lex_pieces.specs.Characters.{is_line_break}
 use Rattle.lex_pieces.specs.Runs.{Each, run, after}
+use Rattle.lex_pieces.proofs.ListLemmas.{same_head, same_tail, nil_cons}
+use Rattle.lex_pieces.proofs.Passing.{after_more}
 use Rattle.lex_literal.specs.declared.escape.Escape.{Escape}
 use Rattle.lex_literal.specs.Escapes.{begins, IsEscape, NoEscape}
 use Rattle.lex_literal.specs.Places.{EndsWith}
 use Rattle.lex_literal.specs.Units.{escape_units, is_legacy}
 use Rattle.lex_literal.specs.Strings.{Piece, Plain, Escaped, Stands, Pieces, SpellsString, NoString, StopsAt, IsStringFault, OneString, is_plain, is_quote, piece_units, has_legacy_escape}
 use Rattle.lex_literal.proofs.EscapeLemmas.{one_escape, escape_front}
-use Rattle.lex_literal.proofs.RunLemmas.{run_after, run_each, after_more, after_none}
+use Rattle.lex_literal.proofs.RunLemmas.{run_after, run_each, after_none}
 
 -- ---- one piece
-
-head : List ℕ → ℕ → ℕ
-head [] d = d
-head (c ∷ cs) d = c
-
-tail : List ℕ → List ℕ
-tail [] = []
-tail (c ∷ cs) = cs
-
-pub same_head : (a b : ℕ) (xs ys : List ℕ) → a ∷ xs ≡ b ∷ ys → a ≡ b
-unfolding head
-same_head a b xs ys e = ap (λ l. head l a) e
-
-pub same_tail : (a b : ℕ) (xs ys : List ℕ) → a ∷ xs ≡ b ∷ ys → xs ≡ ys
-unfolding tail
-same_tail a b xs ys e = ap tail e
 
 plain_is_no_backslash : (quote c : ℕ) → is_plain quote c ≡ true → c ≡ 92 → ⊥
 plain_is_no_backslash quote c e f = let g : is_plain quote c ≡ false = grind (arith, nat_tests) in false≢true (sym g ∙ e)
@@ -133,15 +120,11 @@ so_far_piece quote inner rest r us l p s h f = record {
   suffix = (s.suffix.0 ++ f.0, s.suffix.1 ∙ ap (λ x. s.suffix.0 ++ x) f.1 ∙ sym (append_assoc s.suffix.0 f.0 r));
 }
 
-or_false : (l : Bool) → (l || false) ≡ l
-or_false true = refl
-or_false false = refl
-
 so_far_all : (quote : ℕ) (inner xs r us : List ℕ) (l : Bool) → SoFar quote inner (xs ++ r) us l → Each (is_plain quote) xs → SoFar quote inner r (us ++ utf16 xs) l
 so_far_all quote inner [] r us l s h = subst (λ x. SoFar quote inner r x l) (sym (append-nil us)) s
 so_far_all quote inner (c ∷ xs) r us l s h =
     let one = so_far_piece quote inner (c ∷ (xs ++ r)) (xs ++ r) us l (Plain c) s (refl, h.0) (c ∷ [], refl) in
-    let more = so_far_all quote inner xs r (us ++ encode_utf16 c) l (subst (SoFar quote inner (xs ++ r) (us ++ encode_utf16 c)) (or_false l) one) h.1 in
+    let more = so_far_all quote inner xs r (us ++ encode_utf16 c) l (subst (SoFar quote inner (xs ++ r) (us ++ encode_utf16 c)) (or-false l) one) h.1 in
     subst (λ x. SoFar quote inner r x l) (append_assoc us (encode_utf16 c) (utf16 xs)) more
 
 pub so_far_plain : (quote : ℕ) (inner rest us : List ℕ) (l : Bool) → SoFar quote inner rest us l
@@ -192,9 +175,6 @@ no_string quote inner m us l q s stuck ps r h =
     (λ (x : (os : List Piece) × Pieces quote os m (quote ∷ r)). stuck_pieces quote x.0 m r stuck x.1)
     (λ (x : (os : List Piece) × Pieces quote os (quote ∷ r) m). after_quote quote x.0 m r q stuck x.1)
     (common quote s.pieces ps inner m (quote ∷ r) s.stand theirs)
-
-pub nil_cons : (c : ℕ) (r : List ℕ) → [] ≡ c ∷ r → ⊥
-nil_cons c r e = false≢true (ap (begins (λ _. true)) e)
 
 pub stuck_end : (quote : ℕ) → Stuck quote []
 stuck_end quote = record { piece = at_end; quote_next = λ r e. nil_cons quote r e }

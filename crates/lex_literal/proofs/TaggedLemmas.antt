@@ -5,6 +5,8 @@ use Rattle.std.proofs.lemmas.Bool.{cases_Bool, false≢true, eqb-true}
 use Rattle.std.proofs.lemmas.List.{append_cancel_right}
 use Rattle.lex_pieces.specs.Characters.{is_line_terminator}
 use Rattle.lex_pieces.specs.Runs.{Each}
+use Rattle.lex_pieces.proofs.ListLemmas.{same_head, same_tail}
+use Rattle.lex_pieces.proofs.Passing.{each_append}
 use Rattle.lex_literal.specs.declared.escape.Escape.{Escape}
 use Rattle.lex_literal.specs.declared.escape.Escape.TheVariants.{Continuation, Code, Legacy}
 use Rattle.lex_literal.specs.declared.template.Ending.{Ending}
@@ -52,12 +54,6 @@ record Front (own xs s a : List ℕ) : Type 0 where
   whole : own ≡ xs ++ left
   rest : s ≡ left ++ a
 
-same_head : (c d : ℕ) (xs ys : List ℕ) → c ∷ xs ≡ d ∷ ys → c ≡ d
-same_head c d xs ys e = cc
-
-same_tail : (c d : ℕ) (xs ys : List ℕ) → c ∷ xs ≡ d ∷ ys → xs ≡ ys
-same_tail c d xs ys e = cc
-
 front : (q : ℕ → Bool) (own xs s a : List ℕ) → own ++ a ≡ xs ++ s → Each q xs → begins q a ≡ false → Front own xs s a
 front q own [] s a e h n = record { left = own; whole = refl; rest = sym e }
 front q [] (x ∷ xs) s a e h n = absurd (false≢true (sym n ∙ ap (begins q) e ∙ h.0))
@@ -80,10 +76,6 @@ hex_in c h = ap (λ b. b || (c == 123 || (c == 125 || c == 10))) h
 hexes_in : (ds : List ℕ) → Each is_hex ds → Each in_escape ds
 hexes_in [] h = tt
 hexes_in (d ∷ ds) h = (hex_in d h.0, hexes_in ds h.1)
-
-each_append : (q : ℕ → Bool) (xs ys : List ℕ) → Each q xs → Each q ys → Each q (xs ++ ys)
-each_append q [] ys h i = i
-each_append q (x ∷ xs) ys h i = (h.0, each_append q xs ys h.1 i)
 
 hex_spelling : (n : ℕ) (text s : List ℕ) → IsHexEscape n text s → Spelling (Code n) text s
 hex_spelling n text s h = record {

@@ -15,12 +15,12 @@ use Rattle.lex_literal.specs.declared.template.Ending.{Ending}
 use Rattle.lex_literal.specs.declared.template.Ending.TheVariants.{BackQuote, Substitution}
 use Rattle.lex_literal.specs.Escapes.{begins, is_line_feed, IsEscape}
 use Rattle.lex_pieces.specs.Places.{IsAt}
+use Rattle.lex_pieces.proofs.ListLemmas.{same_head, same_tail, nil_cons}
 use Rattle.lex_literal.specs.Places.{EndsWith}
 use Rattle.lex_literal.specs.Reading.{escape_at}
 use Rattle.lex_literal.specs.Units.{escape_units, is_legacy, CodeFits}
 use Rattle.lex_literal.specs.Templates.{Part, Bare, Break, Escaped, Bad, Stands, Parts, part_units, is_bad, Ends, SpellsPiece, NoPiece, IsBadEscape, IsFirstBad, OnePiece, is_bare, is_brace, bare_run, after_bare}
 use Rattle.lex_literal.proofs.EscapeLemmas.{one_escape, escape_read, escape_front}
-use Rattle.lex_literal.proofs.StringLemmas.{same_head, same_tail, nil_cons}
 
 -- ---- one part
 

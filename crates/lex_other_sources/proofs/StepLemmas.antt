@@ -1,9 +1,11 @@
 -- Steps of a source one after the other.
-use Rattle.std.proofs.Common.{◌≡◌, ℕ, zero, suc, ◌+◌, ◌-◌, ◌<◌, Bool, true, false, Option, None, Some, option_map, refl, ap, ◌∙◌, arith}
-use Rattle.std.specs.Prelude.{is_some}
+use Rattle.std.proofs.Common.{◌≡◌, ℕ, zero, suc, ◌+◌, ◌-◌, ◌<◌, ◌≤◌, Bool, true, false, Option, None, Some, option_map, refl, sym, ap, subst, ◌∙◌, arith}
+use Rattle.std.specs.Prelude.{is_some, MatchOption}
 use Rattle.std.proofs.lemmas.Bool.{false≢true}
+use Rattle.base_token.specs.Tokens.{Spot}
 use Rattle.base_token.specs.declared.context.Context.{Context}
-use Rattle.lex_source.specs.Machine.{Machine, Source, told_of}
+use Rattle.base_token.specs.declared.token.TokenAndSpan.{TokenAndSpan}
+use Rattle.lex_source.specs.Machine.{Machine, Source, shown_spot, told_of}
 use Rattle.lex_source.specs.Settings.{Settings}
 use Rattle.lex_other_sources.specs.Steps.{LeadsTo, StepsTo, back_by, stepped, turns}
 
@@ -24,6 +26,11 @@ pub told_leads : {S : Type 0} (m : Machine S) (c : Option (Source S)) (n : ℕ) 
 told_leads m None n u s settings l = tt
 told_leads m (Some c) n u s settings l = (l.0, λ f. absurd (false≢true f))
 
+-- where there is no copy, none leads
+pub leads_none : {I S : Type 0} (m : Machine S) (state : I → Source S) (c : Option I) (n : ℕ) (u : Bool) (s : Source S) → is_some c ≡ false → LeadsTo m (option_map state c) n u s
+leads_none m state None n u s e = tt
+leads_none m state (Some c) n u s e = absurd (false≢true (sym e))
+
 -- ---- a copy from which steps alone lead to the source
 
 pub stands_alone : {I S : Type 0} (m : Machine S) (state : I → Source S) (c : Option I) (n : ℕ) (u : Bool) (s : Source S) → is_some c ≡ true → u ≡ true
@@ -43,6 +50,12 @@ one_more m None n u s e = absurd e
 one_more m (Some c) n u s e =
     let more : stepped m (n + 1) c ≡ (m.step s).1 = stepped_more m n c ∙ ap (λ x. (m.step x).1) e in
     (ap (λ x. x.tokens) more, λ t. more)
+
+-- ---- a token that is put
+
+pub falls_shown : (a b : ℕ) (o : Option Spot) (t : Option TokenAndSpan) → o ≡ option_map shown_spot t → MatchOption t (a ≤ b) (λ _. a < b) → MatchOption o (a ≤ b) (λ _. a < b)
+falls_shown a b o None e h = subst (λ (p : Option Spot). MatchOption p (a ≤ b) (λ _. a < b)) (sym e) h
+falls_shown a b o (Some x) e h = subst (λ (p : Option Spot). MatchOption p (a ≤ b) (λ _. a < b)) (sym e) h
 
 -- ---- going back
 

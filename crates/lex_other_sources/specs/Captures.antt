@@ -20,3 +20,8 @@ without_reread lo (spot ∷ next ∷ spots) = spot ∷ without_reread lo (next �
 abbrev pub captured_with : Option TokenAndSpan → List Spot → List Spot
 captured_with None spots = spots
 captured_with (Some t) spots = without_reread t.span.lo.0 spots ++ shown_spot t ∷ []
+
+-- the same of a token that was put, or the end
+abbrev pub captured_as : Option Spot → List Spot → List Spot
+captured_as None spots = spots
+captured_as (Some t) spots = without_reread t.lo spots ++ t ∷ []

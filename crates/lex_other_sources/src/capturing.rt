@@ -6,9 +6,9 @@ ghost use Rattle.base_token.specs.OperatorKinds.{bin_op_kind, assign_op_kind};
 ghost use Rattle.base_token.specs.TokenViews.{token_view};
 ghost use Rattle.base_token.specs.declared.error.SyntaxError.TheVariants.{Memory};
 ghost use Rattle.lex_source.specs.Contexts.{outward};
-ghost use Rattle.lex_source.specs.Machine.{SameTold, StepGives, shown_spot};
+ghost use Rattle.lex_source.specs.Machine.{IsPut, SameTold, StepGives, shown_spot};
 ghost use Rattle.lex_source.specs.Settings as spec;
-ghost use Rattle.lex_other_sources.specs.Captures.{captured_with, is_slash_at, without_reread};
+ghost use Rattle.lex_other_sources.specs.Captures.{captured_as, captured_with, is_slash_at, without_reread};
 ghost use Rattle.lex_other_sources.specs.Lending.{capturing_with_open, CapturingLends};
 
 use crate::copies::{clone_token, clone_tokens};
@@ -16,7 +16,7 @@ use base_token::{
     AssignOp, BinOpToken, BytePos, Context, Error, EsVersion, Syntax, Token, TokenAndSpan,
 };
 use lex_source::settings::out_of_memory;
-use lex_source::{Look, TokenContexts, Tokens};
+use lex_source::{Ahead, Look, TokenContexts, Tokens};
 use std::alloc::{AllocError, Global};
 
 /// A source of tokens that keeps each token that it hands out. What a slash is when it is read again takes
@@ -145,6 +145,22 @@ impl<'a, I: Tokens<'a> + Drop> Tokens<'a> for Capturing<'a, I> {
         };
         keep(&mut self.captured, &token).map_err(out_of_memory)?;
         Ok(Some(token))
+    }
+
+    fn next_into(&mut self, ahead: &mut Ahead<'a>) -> Result<(), AllocError>
+        ensures value { OnOk result (IsPut ahead.new (I.machine.step (I.state self.old.input)) (I.state self.new.input)) }
+        ensures falls { OnOk result (MatchOption ahead.new (I.machine.bound (I.state self.new.input).tokens ≤ I.machine.bound (I.state self.old.input).tokens)
+            (λ _. I.machine.bound (I.state self.new.input).tokens < I.machine.bound (I.state self.old.input).tokens)) }
+        ensures told { SameTold (I.state self.old.input).settings (I.state self.new.input).settings }
+        ensures captured { OnOk result (map shown_spot self.new.captured.items ≡ captured_as ahead.new (map shown_spot self.old.captured.items)) }
+    {
+        match self.next() {
+            Ok(token) => {
+                ahead.put(token);
+                Ok(())
+            }
+            Err(_) => Err(AllocError),
+        }
     }
 
     fn look(&self, at: Look) -> Result<Option<TokenAndSpan<'a>>, Error> {

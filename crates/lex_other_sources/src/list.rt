@@ -10,8 +10,8 @@ ghost use Rattle.lex_other_sources.specs.Lists.{list_in, list_machine, list_sour
 use crate::copies::{clone_token, clone_tokens};
 use base_token::{BytePos, Context, Error, EsVersion, Syntax, TokenAndSpan};
 use lex_source::settings::out_of_memory;
-use lex_source::{Look, Settings, TokenContexts, Tokens};
-use std::alloc::Global;
+use lex_source::{Ahead, Look, Settings, TokenContexts, Tokens};
+use std::alloc::{AllocError, Global};
 
 /// A list of tokens as a source. Nothing that it is told changes what it hands out.
 #[derive(Debug, Drop)]
@@ -78,6 +78,11 @@ impl<'a> Tokens<'a> for TokensInput<'a> {
 
     fn next(&mut self) -> Result<Option<TokenAndSpan<'a>>, Error> {
         Ok(self.from_end.pop())
+    }
+
+    fn next_into(&mut self, ahead: &mut Ahead<'a>) -> Result<(), AllocError> {
+        ahead.put(self.from_end.pop());
+        Ok(())
     }
 
     #[tactic(auto, using(crate::proofs::LookLemmas::looked))]

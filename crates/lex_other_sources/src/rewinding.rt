@@ -2,14 +2,15 @@
 ghost use Rattle.std.specs.Prelude.{◌≡◌, ◌<◌, ◌≤◌, None, Some, true, option_map, IfErr, IfOk, MatchBool, MatchOption, OnErr, OnOk};
 ghost use Rattle.base_token.specs.declared.error.SyntaxError.TheVariants.{Memory};
 ghost use Rattle.lex_source.specs.Contexts.{outward};
-ghost use Rattle.lex_source.specs.Machine.{SameTold, StepGives};
+ghost use Rattle.lex_source.specs.Machine.{IsPut, SameTold, StepGives};
 ghost use Rattle.lex_source.specs.Settings as settings;
 ghost use Rattle.lex_other_sources.specs.Rewinding.{back_in, IsLed, IsLedAlone};
 ghost use Rattle.lex_other_sources.specs.Steps as spec;
 ghost use Rattle.lex_other_sources.specs.Steps.{stepped};
 
 use base_token::{BytePos, Context, Error, EsVersion, Syntax, TokenAndSpan};
-use lex_source::{Look, TokenContexts, Tokens};
+use lex_source::{Ahead, Look, TokenContexts, Tokens};
+use std::alloc::AllocError;
 
 /// A source of tokens that can go back in front of the token that it handed out last, which is then read
 /// again in other code. Where it is asked to keep what that takes, it keeps a copy of the source, made
@@ -198,6 +199,28 @@ impl<'a, I: Tokens<'a> + Drop> Rewinding<I> {
         self.input.next()
     }
 
+    /// The same, where the token is made where it waits.
+    ///
+    /// # Errors
+    ///
+    /// Want of memory.
+    #[inline(never)]
+    fn put_slowly(&mut self, ahead: &mut Ahead<'a>) -> Result<(), AllocError>
+        ensures value { OnOk result (IsPut ahead.new (I.machine.step (I.state self.old.input)) (I.state self.new.input)) }
+        ensures falls { OnOk result (MatchOption ahead.new (I.machine.bound (I.state self.new.input).tokens ≤ I.machine.bound (I.state self.old.input).tokens)
+            (λ _. I.machine.bound (I.state self.new.input).tokens < I.machine.bound (I.state self.old.input).tokens)) }
+        ensures told { SameTold (I.state self.old.input).settings (I.state self.new.input).settings }
+        ensures led { IsLed I.machine I.state self.old → IsLed I.machine I.state self.new }
+    {
+        match self.next_slowly() {
+            Ok(token) => {
+                ahead.put(token);
+                Ok(())
+            }
+            Err(_) => Err(AllocError),
+        }
+    }
+
     /// The next token, in front of which it can go back.
     ///
     /// # Errors
@@ -247,6 +270,21 @@ impl<'a, I: Tokens<'a> + Drop> Tokens<'a> for Rewinding<I> {
             return self.next_slowly();
         }
         self.input.next()
+    }
+
+    #[inline(always)]
+    #[tactic(auto, using(crate::proofs::StepLemmas::leads_none))]
+    fn next_into(&mut self, ahead: &mut Ahead<'a>) -> Result<(), AllocError>
+        ensures value { OnOk result (IsPut ahead.new (I.machine.step (I.state self.old.input)) (I.state self.new.input)) }
+        ensures falls { OnOk result (MatchOption ahead.new (I.machine.bound (I.state self.new.input).tokens ≤ I.machine.bound (I.state self.old.input).tokens)
+            (λ _. I.machine.bound (I.state self.new.input).tokens < I.machine.bound (I.state self.old.input).tokens)) }
+        ensures told { SameTold (I.state self.old.input).settings (I.state self.new.input).settings }
+        ensures led { IsLed I.machine I.state self.old → IsLed I.machine I.state self.new }
+    {
+        if self.keeps || self.copy.is_some() {
+            return self.put_slowly(ahead);
+        }
+        self.input.next_into(ahead)
     }
 
     fn look(&self, at: Look) -> Result<Option<TokenAndSpan<'a>>, Error> {

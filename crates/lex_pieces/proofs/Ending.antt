@@ -3,6 +3,7 @@ use Rattle.std.proofs.Common.{◌≡◌, ◌≢◌, ℕ, ⊎_elim, true, false, 
 use Rattle.std.specs.Prelude.{◌==◌, None, Some}
 use Rattle.std.proofs.lemmas.Bool.{cases_Bool, false≢true, and_parts, eqb-true}
 use Rattle.std.proofs.lemmas.Bool.Decides.{nat_tests}
+use Rattle.std.proofs.lemmas.Option.{same_Some}
 use Rattle.lex_pieces.specs.Runs.{Each, Passed}
 use Rattle.lex_pieces.specs.Classes.{is_no_star}
 use Rattle.lex_pieces.specs.Comments.{NoEnd, IsBlock, is_end, tail, before_end, past_end}
@@ -93,9 +94,6 @@ none_past (c ∷ cs) e = ⊎_elim
     (λ (t : is_end c cs ≡ false). no_end_tail c cs t (none_past cs (sym (ap (λ b. cond b (Some (tail cs)) (past_end cs)) t) ∙ e)))
     (cases_Bool (is_end c cs))
 
-some_same : (x y : List ℕ) → Some x ≡ Some y → x ≡ y
-some_same x y e = cc
-
 here : (c : ℕ) (cs : List ℕ) → is_end c cs ≡ true → (before_end (c ∷ cs) ≡ []) × (past_end (c ∷ cs) ≡ Some (tail cs))
 here c cs t = (ap (λ b. cond b [] (c ∷ before_end cs)) t, ap (λ b. cond b (Some (tail cs)) (past_end cs)) t)
 
@@ -116,7 +114,7 @@ some_past [] rest e = cc
 some_past (c ∷ cs) rest e = ⊎_elim
     (λ (t : is_end c cs ≡ true).
     let h = here c cs t in
-    let r : tail cs ≡ rest = some_same (tail cs) rest (sym h.1 ∙ e) in
+    let r : tail cs ≡ rest = same_Some (tail cs) rest (sym h.1 ∙ e) in
     rw h.0 (is_end_here cs rest c t ∙ ap (λ (l : List ℕ). 42 ∷ 47 ∷ l) r, no_end_nil))
     (λ (t : is_end c cs ≡ false).
     let h = later c cs t in

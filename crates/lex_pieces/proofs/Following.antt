@@ -1,11 +1,12 @@
 -- Pieces of trivia one after another.
 use Rattle.std.proofs.Common.{◌≡◌, ◌≢◌, ℕ, IsUtf8, Bool, true, false, not, ◌||◌, List, [], ◌∷◌, ◌++◌, length, refl, sym, ap, subst, ◌∙◌, arith, ⊎_elim}
-use Rattle.std.specs.Prelude.{◌==◌, Option, None, Some, MatchOption}
+use Rattle.std.specs.Prelude.{◌==◌, Option, None, MatchOption}
 use Rattle.std.specs.List.{list_any}
 use Rattle.std.specs.Str.{chars}
 use Rattle.std.proofs.lemmas.Bool.{cases_Bool}
 use Rattle.std.proofs.lemmas.Bool.Decides.{nat_tests}
 use Rattle.std.proofs.lemmas.Str.{encodes-chars, length-le-encodes}
+use Rattle.std.proofs.Math.Bool.{or-false, or-true, or_assoc}
 use lib.Utf8.{encodes}
 use Rattle.lex_pieces.specs.declared.trivia.Goal.{Goal}
 use Rattle.lex_pieces.specs.Characters.{is_line_terminator}
@@ -14,20 +15,8 @@ use Rattle.lex_pieces.specs.Names.{is_nil}
 use Rattle.lex_pieces.specs.Runs.{after}
 use Rattle.lex_pieces.specs.Trivia.{Piece, WhiteSpace, LineTerminator, Follow, IsBlank, IsPassed, IsPiece, breaks}
 
-or_false : (b : Bool) → (b || false) ≡ b
-or_false true = refl
-or_false false = refl
-
-or_assoc : (a b c : Bool) → ((a || b) || c) ≡ (a || (b || c))
-or_assoc true b c = refl
-or_assoc false b c = refl
-
-or_true : (b : Bool) → (b || true) ≡ true
-or_true true = refl
-or_true false = refl
-
 pub any_push : (ps : List Piece) (p : Piece) → list_any breaks (ps ++ p ∷ []) ≡ (list_any breaks ps || breaks p)
-any_push [] p = or_false (breaks p)
+any_push [] p = or-false (breaks p)
 any_push (q ∷ qs) p = ap (λ b. breaks q || b) (any_push qs p) ∙ sym (or_assoc (breaks q) (list_any breaks qs) (breaks p))
 
 -- what was passed so far
@@ -42,7 +31,7 @@ skipped_none goal first text = record { pieces = []; follow = refl; broken = ref
 follow_push : (goal : Goal) (first : Bool) (text : List ℕ) (ps : List Piece) (mid : List ℕ) (p : Piece) (rest : List ℕ)
     → Follow goal first text ps mid → IsPiece goal (first || list_any breaks ps) mid p rest → Follow goal first text (ps ++ p ∷ []) rest
 follow_push goal first text [] mid p rest h k =
-    (rest, subst (λ b. IsPiece goal b text p rest) (or_false first) (subst (λ l. IsPiece goal (first || false) l p rest) (sym h) k), refl)
+    (rest, subst (λ b. IsPiece goal b text p rest) (or-false first) (subst (λ l. IsPiece goal (first || false) l p rest) (sym h) k), refl)
 follow_push goal first text (q ∷ qs) mid p rest h k = (
   h.0,
   h.1,
@@ -106,14 +95,11 @@ holds_terminator s cs u e =
 
 -- ---- a turn of a loop over pieces
 
-pub turn : {X : Type 0} (P : Type 0) (Q : X → Type 0) (o : Option X) (x : X) → o ≡ Some x → MatchOption o P Q → Q x
-turn P Q o x e h = subst (λ o. MatchOption o P Q) e h
-
 pub last : {X : Type 0} (P : Type 0) (Q : X → Type 0) (o : Option X) → o ≡ None → MatchOption o P Q → P
 last P Q o e h = subst (λ o. MatchOption o P Q) e h
 
 pub broken_now : (broke b : Bool) → b ≡ true → true ≡ (broke || b)
-broken_now broke b e = sym (ap (λ x. broke || x) e ∙ or_true broke)
+broken_now broke b e = sym (ap (λ x. broke || x) e ∙ or-true broke)
 
 pub broken_as_before : (broke b : Bool) → b ≡ false → broke ≡ (broke || b)
-broken_as_before broke b e = sym (ap (λ x. broke || x) e ∙ or_false broke)
+broken_as_before broke b e = sym (ap (λ x. broke || x) e ∙ or-false broke)

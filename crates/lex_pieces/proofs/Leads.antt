@@ -3,7 +3,7 @@ use Rattle.std.proofs.Common.{◌≡◌, ◌≢◌, ℕ, ◌<◌, ◌≤◌, ⊎
 use Rattle.std.specs.Prelude.{◌==◌, ◌||◌, if◌then◌else◌, nat_lt, Option, None, Some, Ok, MatchOption}
 use Rattle.std.specs.Borrow.{Bor}
 use Rattle.std.specs.Str.{chars}
-use Rattle.std.proofs.lemmas.Bool.{and_parts, cases_lt, false≢true, not-true}
+use Rattle.std.proofs.lemmas.Bool.{and_parts, cases_lt, false≢true, not-true, or_parts}
 use Rattle.std.proofs.lemmas.Bool.Decides.{nat_tests}
 use Rattle.std.proofs.lemmas.Str.{IsCharBoundary-at_seam, chars-encodes, chars-nil, encode_ascii, encodes-chars, scalars-chars}
 use Rattle.std.proofs.Math.Seq.{drop-append_seam}
@@ -144,7 +144,7 @@ other_class b.Other x s l p n h = h
 
 -- ---- what is read there
 
-below : (x : ℕ) (q : Bool) → (nat_lt x 128 && q) ≡ true → x < 128
+pub below : (x : ℕ) (q : Bool) → (nat_lt x 128 && q) ≡ true → x < 128
 below x q h = let l : nat_lt x 128 ≡ true = (and_parts (nat_lt x 128) q h).0 in grind (arith, nat_tests)
 
 pub space_low : (x : ℕ) → x < 256 → class_of x ≡ b.WhiteSpace → (x < 128) × (is_white_space x ≡ true)
@@ -238,10 +238,6 @@ agrees_wide end text r None e h = e ∙ h
 agrees_wide end text r (Some x) e h = e ∙ h
 
 -- ---- whether trivia may stand at a front
-
-or_parts : (a b : Bool) → (a || b) ≡ false → (a ≡ false) × (b ≡ false)
-or_parts true b e = absurd (false≢true (sym e))
-or_parts false b e = (refl, e)
 
 dash_none : (goal : Goal) (first dash : Bool) (cs : List ℕ) → (dash && first) ≡ false → (if dash then (if first then html goal HtmlClose (past_html_close cs) else Nothing) else Nothing) ≡ Nothing
 dash_none goal true true cs e = absurd (false≢true (sym e))

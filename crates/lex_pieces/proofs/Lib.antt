@@ -1,3 +1,4 @@
+pub mod ListLemmas
 pub mod Tables
 pub mod Passing
 pub mod Wide

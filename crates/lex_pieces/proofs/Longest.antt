@@ -8,6 +8,7 @@ use Rattle.std.proofs.lemmas.Slice.Eq.{bytes_eq-Decides}
 use Rattle.std.specs.Str.{bytes_eq, chars}
 use Rattle.std.proofs.lemmas.Bool.{cases_Bool, false≢true, and_parts, eqb-true, not-true, both_ways}
 use Rattle.std.proofs.lemmas.Bool.Decides.{nat_tests}
+use Rattle.std.proofs.lemmas.Option.{same_Some}
 use Rattle.base_token.specs.declared.token.TokenKind.{TokenKind}
 use Rattle.lex_pieces.specs.Punctuators.{IsNumberDot, IsPunctuator, NoPunctuator, OnePunctuator, begins_with_digit, read_punctuator, Spelling, IsAmong, punctuators, past_all, or_else, find, push_tail, tails}
 
@@ -22,15 +23,12 @@ same_answer x y e = let k : x ≡ y = cc in (ap (λ (z : Answer). z.0) k, ap (λ
 
 -- ---- a front of a text
 
-some_same : (x y : List ℕ) → Some x ≡ Some y → x ≡ y
-some_same x y e = cc
-
 past_front : (s rest : List ℕ) → past_all s (s ++ rest) ≡ Some rest
 past_front [] rest = refl
 past_front (m ∷ ms) rest = let e : (m == m) ≡ true = grind (arith, nat_tests) in rw e (past_front ms rest)
 
 front_past : (s cs rest : List ℕ) → past_all s cs ≡ Some rest → cs ≡ s ++ rest
-front_past [] cs rest e = some_same cs rest e
+front_past [] cs rest e = same_Some cs rest e
 front_past (m ∷ ms) [] rest e = cc
 front_past (m ∷ ms) (c ∷ cs) rest e = ⊎_elim
     (λ (t : (c == m) ≡ true).

@@ -10,7 +10,7 @@ use Rattle.lex_pieces.specs.Bytes.{IsLead, class_of}
 use Rattle.lex_pieces.specs.Characters.{is_name_start}
 use Rattle.lex_pieces.specs.Names.{is_opening}
 use Rattle.lex_pieces.specs.Runs.{Ends}
-use Rattle.lex_pieces.proofs.Leads.{leads}
+use Rattle.lex_pieces.proofs.Leads.{leads, below}
 use Rattle.lex_pieces.proofs.Tables.{same_from_table}
 
 abbrev start_byte : ℕ → Bool
@@ -50,9 +50,6 @@ other_class b.Digit x s l n h = h
 other_class b.Quote x s l n h = h
 other_class b.BackQuote x s l n h = h
 other_class b.Other x s l n h = h
-
-below : (x : ℕ) (q : Bool) → (nat_lt x 128 && q) ≡ true → x < 128
-below x q h = let l : nat_lt x 128 ≡ true = (and_parts (nat_lt x 128) q h).0 in grind (arith, nat_tests)
 
 pub start_low : (x : ℕ) → x < 256 → b.NameStart ≡ class_of x → x < 128
 start_low x h e = below x (is_name_start x) (tells_of b.NameStart x h e)

@@ -54,7 +54,7 @@ one_char_by first text c d r s p q (inr e) (inl f) =
     absurd (false≢true (sym (backslash first) ∙ subst (λ x. is_name_char first x ≡ true) is q))
 one_char_by first text c d r s p q (inr e) (inr f) = one_escape text c d r s e.1 f.1
 
-one_char : (first : Bool) (text : List ℕ) (c d : ℕ) (r s : List ℕ) → IsNameChar first text c r → IsNameChar first text d s → (c ≡ d) × (r ≡ s)
+pub one_char : (first : Bool) (text : List ℕ) (c d : ℕ) (r s : List ℕ) → IsNameChar first text c r → IsNameChar first text d s → (c ≡ d) × (r ≡ s)
 one_char first text c d r s h g = one_char_by first text c d r s h.0 g.0 h.1 g.1
 
 -- ---- at most one name

@@ -4,12 +4,14 @@ use Rattle.std.specs.Prelude.{◌==◌, None, Some}
 use Rattle.std.proofs.lemmas.Bool.{and_parts, cases_Bool, eqb-true, false≢true}
 use Rattle.std.proofs.lemmas.Bool.Decides.{nat_tests}
 use Rattle.std.proofs.lemmas.List.{append_cancel_right}
+use Rattle.std.proofs.lemmas.Option.{same_Some}
 use Rattle.lex_pieces.specs.Characters.{is_among, is_line_terminator, is_name_part}
 use Rattle.lex_pieces.specs.Classes.{is_line_char, is_reg_exp_char}
 use Rattle.lex_pieces.specs.Runs.{Each, Ends, IsRun, Passed, run, after}
 use Rattle.lex_pieces.specs.RegExps.{Mark, Bare, Escaped, Part, One, Class, EachInClass, EachPart, Goes, IsBody, IsOpenSlash, IsPart, IsRegExp, NoRegExp, OneRegExp, class_after, is_body_char, is_class_char, is_comment_mark, past_body, past_slash, spelled_all, spelled_part, spelled_parts}
 use Rattle.lex_pieces.proofs.NameLemmas.{cond_same}
 use Rattle.lex_pieces.proofs.TriviaLemmas.{is_run, one_run}
+use Rattle.lex_pieces.proofs.ListLemmas.{same_tail}
 
 -- ---- one character more
 
@@ -162,9 +164,6 @@ left_bare true c cs after line back slash h = ⊎_elim
 none_some : (after : List ℕ) → None ≡ Some after → ⊥
 none_some after e = cc
 
-some_same : (x y : List ℕ) → Some x ≡ Some y → x ≡ y
-some_same x y e = cc
-
 ends_here : (k : Bool) (c : ℕ) (cs after : List ℕ) → (c == 47 && not k) ≡ true → cs ≡ after → Left k (c ∷ cs) after
 ends_here false c cs after e same =
     let slash : c ≡ 47 = eqb-true c 47 (and_parts (c == 47) true e).0 in
@@ -190,7 +189,7 @@ sound false k (c ∷ cs) after h =
     (λ (back : (c == 92) ≡ false).
     let h2 : last ≡ Some after = sym (ap (λ b. cond b (past_body true k cs) last) back) ∙ h1 in ⊎_elim
     (λ (slash : (c == 47 && not k) ≡ true).
-    ends_here k c cs after slash (some_same cs after (sym (ap (λ b. cond b (Some cs) (past_body false (class_after k c) cs)) slash) ∙ h2)))
+    ends_here k c cs after slash (same_Some cs after (sym (ap (λ b. cond b (Some cs) (past_body false (class_after k c) cs)) slash) ∙ h2)))
     (λ (slash : (c == 47 && not k) ≡ false).
     left_bare k c cs after line back slash
     (sound false (class_after k c) cs after (sym (ap (λ b. cond b (Some cs) (past_body false (class_after k c) cs)) slash) ∙ h2)))
@@ -200,9 +199,6 @@ sound false k (c ∷ cs) after h =
     (cases_Bool (is_line_char c))
 
 -- ---- the first character
-
-cons_same : (c d : ℕ) (cs ds : List ℕ) → c ∷ cs ≡ d ∷ ds → c ≡ d
-cons_same c d cs ds e = cc
 
 some_part : (ps : List Part) (inner after : List ℕ) → inner ≡ spelled_parts ps (47 ∷ after) → Ends is_comment_mark inner → ps ≢ []
 some_part [] inner after e h none = let k : is_comment_mark 47 ≡ false = subst (Ends is_comment_mark) e h in false≢true (sym k)
@@ -246,15 +242,12 @@ open_slash text body flags rest h =
 
 -- ---- at most one
 
-tail_same : (c d : ℕ) (cs ds : List ℕ) → c ∷ cs ≡ d ∷ ds → cs ≡ ds
-tail_same c d cs ds e = cc
-
 pub one_reg_exp : (text : List ℕ) → OneRegExp text
 one_reg_exp text b d f g r s h k =
     let x = h.1.0 in
     let y = k.1.0 in
-    let inner : b ++ 47 ∷ x ≡ d ++ 47 ∷ y = tail_same 47 47 (b ++ 47 ∷ x) (d ++ 47 ∷ y) (sym h.1.1 ∙ k.1.1) in
-    let after : x ≡ y = some_same x y (sym (reads_body (b ++ 47 ∷ x) b x h.0 refl) ∙ reads_body (b ++ 47 ∷ x) d y k.0 inner) in
+    let inner : b ++ 47 ∷ x ≡ d ++ 47 ∷ y = same_tail 47 47 (b ++ 47 ∷ x) (d ++ 47 ∷ y) (sym h.1.1 ∙ k.1.1) in
+    let after : x ≡ y = same_Some x y (sym (reads_body (b ++ 47 ∷ x) b x h.0 refl) ∙ reads_body (b ++ 47 ∷ x) d y k.0 inner) in
     let body : b ≡ d = append_cancel_right b d (47 ∷ y) (ap (λ (l : List ℕ). b ++ 47 ∷ l) (sym after) ∙ inner) in
     let run : IsRun is_name_part y f r = subst (λ l. IsRun is_name_part l f r) after h.1.2 in
     let p = one_run is_name_part y f r run in
@@ -263,7 +256,7 @@ one_reg_exp text b d f g r s h k =
 
 pub no_reg_exp : (text inner : List ℕ) → text ≡ 47 ∷ inner → past_body false false inner ≡ None → NoRegExp text
 no_reg_exp text inner e none body flags rest h =
-    let same : inner ≡ body ++ 47 ∷ h.1.0 = tail_same 47 47 inner (body ++ 47 ∷ h.1.0) (sym e ∙ h.1.1) in
+    let same : inner ≡ body ++ 47 ∷ h.1.0 = same_tail 47 47 inner (body ++ 47 ∷ h.1.0) (sym e ∙ h.1.1) in
     none_some h.1.0 (sym none ∙ reads_body inner body h.1.0 h.0 same)
 
 -- ---- the slash
@@ -278,7 +271,7 @@ pub is_slash : (text inner : List ℕ) → past_slash text ≡ Some inner → (t
 is_slash [] inner e = absurd (none_some inner e)
 is_slash (c ∷ []) inner e = ⊎_elim
     (λ (t : (c == 47) ≡ true).
-    let k = some_same [] inner (sym (ap (λ b. cond b (Some []) None) t) ∙ e) in
+    let k = same_Some [] inner (sym (ap (λ b. cond b (Some []) None) t) ∙ e) in
     subst (λ l. (c ∷ [] ≡ 47 ∷ l) × Ends is_comment_mark l) k (ap (λ (x : ℕ). x ∷ []) (eqb-true c 47 t), tt))
     (λ (t : (c == 47) ≡ false). absurd (none_some inner (sym (ap (λ b. cond b (Some []) None) t) ∙ e)))
     (cases_Bool (c == 47))
@@ -288,7 +281,7 @@ is_slash (c ∷ (d ∷ ds)) inner e =
     (λ (t : (c == 47) ≡ true). ⊎_elim
     (λ (m : is_comment_mark d ≡ true). absurd (none_some inner (sym (ap (λ b. cond b None (Some (d ∷ ds))) m) ∙ (sym (ap (λ b. cond b more None) t) ∙ e))))
     (λ (m : is_comment_mark d ≡ false).
-    let k = some_same (d ∷ ds) inner (sym (ap (λ b. cond b None (Some (d ∷ ds))) m) ∙ (sym (ap (λ b. cond b more None) t) ∙ e)) in
+    let k = same_Some (d ∷ ds) inner (sym (ap (λ b. cond b None (Some (d ∷ ds))) m) ∙ (sym (ap (λ b. cond b more None) t) ∙ e)) in
     subst (λ l. (c ∷ (d ∷ ds) ≡ 47 ∷ l) × Ends is_comment_mark l) k (ap (λ (x : ℕ). x ∷ (d ∷ ds)) (eqb-true c 47 t), m))
     (cases_Bool (is_comment_mark d)))
     (λ (t : (c == 47) ≡ false). absurd (none_some inner (sym (ap (λ b. cond b more None) t) ∙ e)))

@@ -29,17 +29,17 @@ record IsWide (c : ℕ) (b : ℕ) (bs : List ℕ) : Type 0 where
   line : c ≡ 0x2028 → b ≡ 226
   paragraph : c ≡ 0x2029 → b ≡ 226
 
-two : (c : ℕ) → ltb c 128 ≡ false → ltb c 2048 ≡ true → encode c ≡ (192 + c / 64) ∷ next c ∷ []
+pub encode_two : (c : ℕ) → ltb c 128 ≡ false → ltb c 2048 ≡ true → encode c ≡ (192 + c / 64) ∷ next c ∷ []
 unfolding encode
-two c e f = rw e (rw f refl)
+encode_two c e f = rw e (rw f refl)
 
-three : (c : ℕ) → ltb c 128 ≡ false → ltb c 2048 ≡ false → ltb c 65536 ≡ true → encode c ≡ (224 + c / 4096) ∷ next (c / 64) ∷ next c ∷ []
+pub encode_three : (c : ℕ) → ltb c 128 ≡ false → ltb c 2048 ≡ false → ltb c 65536 ≡ true → encode c ≡ (224 + c / 4096) ∷ next (c / 64) ∷ next c ∷ []
 unfolding encode
-three c e f g = rw e (rw f (rw g refl))
+encode_three c e f g = rw e (rw f (rw g refl))
 
-four : (c : ℕ) → ltb c 128 ≡ false → ltb c 2048 ≡ false → ltb c 65536 ≡ false → encode c ≡ (240 + c / 262144) ∷ next (c / 4096) ∷ next (c / 64) ∷ next c ∷ []
+pub encode_four : (c : ℕ) → ltb c 128 ≡ false → ltb c 2048 ≡ false → ltb c 65536 ≡ false → encode c ≡ (240 + c / 262144) ∷ next (c / 4096) ∷ next (c / 64) ∷ next c ∷ []
 unfolding encode
-four c e f g = rw e (rw f (rw g refl))
+encode_four c e f g = rw e (rw f (rw g refl))
 
 wide : (c : ℕ) → 128 ≤ c → (b : ℕ) × (bs : List ℕ) × IsWide c b bs
 wide c h =
@@ -49,7 +49,7 @@ wide c h =
       192 + c / 64,
       next c ∷ [],
       record {
-        whole = two c e (grind (arith, nat_tests));
+        whole = encode_two c e (grind (arith, nat_tests));
         high = omega arith;
         others = (omega arith, omega arith, tt);
         line = λ is. omega (arith, is);
@@ -61,7 +61,7 @@ wide c h =
       224 + c / 4096,
       next (c / 64) ∷ next c ∷ [],
       record {
-        whole = three c e f (grind (arith, nat_tests));
+        whole = encode_three c e f (grind (arith, nat_tests));
         high = omega arith;
         others = (omega arith, omega arith, (omega arith, omega arith, tt));
         line = λ is. ap (λ n. 224 + n / 4096) is;
@@ -72,7 +72,7 @@ wide c h =
       240 + c / 262144,
       next (c / 4096) ∷ next (c / 64) ∷ next c ∷ [],
       record {
-        whole = four c e f (grind (arith, nat_tests));
+        whole = encode_four c e f (grind (arith, nat_tests));
         high = omega arith;
         others = (omega arith, omega arith, (omega arith, omega arith, (omega arith, omega arith, tt)));
         line = λ is. omega (arith, is);
@@ -249,7 +249,7 @@ parts p q sort (c ∷ cs) =
     })
     (sort c)
 
-scalars_parts : (xs ys : List ℕ) → scalars (xs ++ ys) ≡ true → (scalars xs ≡ true) × (scalars ys ≡ true)
+pub scalars_parts : (xs ys : List ℕ) → scalars (xs ++ ys) ≡ true → (scalars xs ≡ true) × (scalars ys ≡ true)
 scalars_parts [] ys h = (refl, h)
 scalars_parts (x ∷ xs) ys h =
     (elim (scalar x) as (λ t. (t && scalars (xs ++ ys)) ≡ true → ((t && scalars xs) ≡ true) × (scalars ys ≡ true)) [

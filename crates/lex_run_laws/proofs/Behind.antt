@@ -13,6 +13,7 @@ use Rattle.lex_literal.specs.Templates.{Ends}
 use Rattle.lex_token.specs.declared.goal.LexicalGoal.{LexicalGoal}
 use Rattle.lex_token.specs.declared.goal.LexicalGoal.TheVariants.{Div, RegExp, TemplateTail, TemplateEnd}
 use Rattle.lex_token.specs.Lexemes.{SpecLexeme, IsCharacters, IsLexeme, IsOutside}
+use Rattle.lex_token.proofs.LexemeLemmas.{same_ending}
 use Rattle.lex_step_laws.specs.States.{place}
 use Rattle.std.specs.Prelude.{◌||◌}
 
@@ -93,10 +94,6 @@ outside_behind goal text x rest (inr (inr h)) = (h.1.1.1.0, h.1.1.1.2)
 ending_behind : (ending : Ending) (text rest : List ℕ) → Ends ending text rest → Behind text rest
 ending_behind BackQuote text rest h = (96 ∷ [], h)
 ending_behind Substitution text rest h = (36 ∷ 123 ∷ [], h)
-
-pub same_ending : (ending : Ending) (a b r : List ℕ) → Ends ending a r → Ends ending b r → a ≡ b
-same_ending BackQuote a b r h g = h ∙ sym g
-same_ending Substitution a b r h g = h ∙ sym g
 
 characters_behind : (text : List ℕ) (x : SpecLexeme) (rest : List ℕ) → IsCharacters text x rest → Behind text rest
 characters_behind text x rest h =

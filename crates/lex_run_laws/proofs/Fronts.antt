@@ -22,7 +22,7 @@ use Rattle.lex_literal.specs.Numbers.{is_number_start}
 use Rattle.lex_literal.specs.Strings.{is_quote}
 use Rattle.lex_literal.proofs.NumeralLemmas.{numeral_starts}
 use Rattle.lex_token.specs.Lexemes.{SpecLexeme, IsMark, IsOrdinary}
-use Rattle.lex_token.proofs.SortLemmas.{string_begins, word_begins}
+use Rattle.lex_token.proofs.SortLemmas.{string_begins, word_begins, slash_no_opening}
 use Rattle.lex_run_laws.proofs.Words.{Parted, is_gap}
 use Rattle.lex_run_laws.proofs.Marks.{among_holds, holds_all, is_lone, is_lone_char, is_some_text, lone_first, some_text}
 
@@ -104,10 +104,6 @@ white_no_opening = refl
 pub terminators_no_opening : list_all no_opening line_terminators ≡ true
 unfolding unicode_ident no_opening
 terminators_no_opening = refl
-
-pub slash_no_opening : is_opening 47 ≡ false
-unfolding unicode_ident
-slash_no_opening = refl
 
 less_no_opening : is_opening 60 ≡ false
 unfolding unicode_ident

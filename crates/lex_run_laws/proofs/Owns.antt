@@ -8,6 +8,7 @@ use Rattle.std.proofs.lemmas.Bool.{cases_lt}
 use Rattle.std.proofs.lemmas.Bool.Decides.{nat_tests}
 use lib.Utf8.{encode, next}
 use Rattle.lex_pieces.specs.Places.{bytes}
+use Rattle.lex_pieces.proofs.Wide.{encode_two, encode_three, encode_four}
 use Rattle.lex_source.specs.Canonical.Canonical.{own_bytes}
 use Rattle.lex_source.proofs.canonical.Again.{Starts, own_again, starts_append}
 use Rattle.lex_step_laws.specs.States.{place}
@@ -21,18 +22,6 @@ record Heads (c : ℕ) : Type 0 where
   whole : encode c ≡ first ∷ more
   start : is_char_start first ≡ true
 
-two : (c : ℕ) → ltb c 128 ≡ false → ltb c 2048 ≡ true → encode c ≡ (192 + c / 64) ∷ next c ∷ []
-unfolding encode
-two c e f = rw e (rw f refl)
-
-three : (c : ℕ) → ltb c 128 ≡ false → ltb c 2048 ≡ false → ltb c 65536 ≡ true → encode c ≡ (224 + c / 4096) ∷ next (c / 64) ∷ next c ∷ []
-unfolding encode
-three c e f g = rw e (rw f (rw g refl))
-
-four : (c : ℕ) → ltb c 128 ≡ false → ltb c 2048 ≡ false → ltb c 65536 ≡ false → encode c ≡ (240 + c / 262144) ∷ next (c / 4096) ∷ next (c / 64) ∷ next c ∷ []
-unfolding encode
-four c e f g = rw e (rw f (rw g refl))
-
 low_start : (b : ℕ) → b < 128 → is_char_start b ≡ true
 low_start b h = grind (arith, nat_tests)
 
@@ -43,14 +32,14 @@ wide_heads : (c : ℕ) → 128 ≤ c → Heads c
 wide_heads c h =
     let e : ltb c 128 ≡ false = grind (arith, nat_tests) in
     ⊎_elim
-    (λ (short : c < 2048). record { first = 192 + c / 64; more = next c ∷ []; whole = two c e (grind (arith, nat_tests)); start = high_start (192 + c / 64) (omega arith) })
+    (λ (short : c < 2048). record { first = 192 + c / 64; more = next c ∷ []; whole = encode_two c e (grind (arith, nat_tests)); start = high_start (192 + c / 64) (omega arith) })
     (λ (long : 2048 ≤ c). let f : ltb c 2048 ≡ false = grind (arith, nat_tests) in ⊎_elim
     (λ (short : c < 65536).
-    record { first = 224 + c / 4096; more = next (c / 64) ∷ next c ∷ []; whole = three c e f (grind (arith, nat_tests)); start = high_start (224 + c / 4096) (omega arith) })
+    record { first = 224 + c / 4096; more = next (c / 64) ∷ next c ∷ []; whole = encode_three c e f (grind (arith, nat_tests)); start = high_start (224 + c / 4096) (omega arith) })
     (λ (long : 65536 ≤ c). record {
       first = 240 + c / 262144;
       more = next (c / 4096) ∷ next (c / 64) ∷ next c ∷ [];
-      whole = four c e f (grind (arith, nat_tests));
+      whole = encode_four c e f (grind (arith, nat_tests));
       start = high_start (240 + c / 262144) (omega arith);
     })
     (cases_lt c 65536))

@@ -17,6 +17,7 @@ use Rattle.lex_literal.specs.declared.template.Ending.{Ending}
 use Rattle.lex_literal.specs.declared.template.Ending.TheVariants.{BackQuote, Substitution}
 use Rattle.lex_token.specs.declared.goal.LexicalGoal.TheVariants.{Div, RegExp}
 use Rattle.lex_token.specs.Lexemes.{SpecLexeme, IsLexeme, IsPattern, ending_kind}
+use Rattle.lex_token.proofs.SortLemmas.{slash_no_opening}
 use Rattle.lex_run_laws.proofs.Behind.{Behind}
 use Rattle.lex_step_laws.specs.States.{Last, Start, Slash, Characters, Fault, Other, State, again, again_by, behind, contexts_after, last_after, place, spot_at, template_goal}
 use Rattle.lex_step_laws.specs.Steps as steps
@@ -26,7 +27,7 @@ use Rattle.lex_source.specs.Canonical.Moved.{moved_to}
 use Rattle.lex_run_laws.specs.Turns.{Turn, Turns, asked, begin_at, end_at, is_reread, is_slash_kind, kept, moved_behind, told}
 use Rattle.lex_run_laws.proofs.Taken.{How, Plain, Took, read_token}
 use Rattle.lex_run_laws.proofs.Words.{Parted}
-use Rattle.lex_run_laws.proofs.Fronts.{Free, slash_no_opening}
+use Rattle.lex_run_laws.proofs.Fronts.{Free}
 use Rattle.lex_run_laws.proofs.Owns.{own_is}
 use Rattle.lex_run_laws.proofs.Slashes.{reread}
 use Rattle.lex_run_laws.proofs.Standing.{no_template, no_tpl, slash_plain, word_opens}

@@ -9,7 +9,7 @@ use Rattle.lex_source.specs.Machine.{SameContexts, told_of}
 use Rattle.lex_pieces.specs.Places.{bytes}
 use Rattle.lex_token.specs.declared.goal.LexicalGoal.{LexicalGoal}
 use Rattle.lex_token.specs.declared.goal.LexicalGoal.TheVariants.{Div, RegExp, TemplateTail, TemplateEnd}
-use Rattle.lex_token.specs.Lexemes.{SpecLexeme, IsCharacters, IsLexeme}
+use Rattle.lex_token.specs.Lexemes.{SpecLexeme, IsLexeme}
 use Rattle.lex_step_laws.specs.States.{Last, Start, Slash, Characters, Fault, Other, State, again, behind, contexts_after, goal_of, is_start, last_after, shebang, template_goal}
 use Rattle.lex_step_laws.specs.Steps.{Ends, IsFirst, IsGoing, IsOutside, IsPlain, IsRead, IsStep}
 use Rattle.lex_step_laws.proofs.Tokens.{token_no_longer, token_shorter}
@@ -17,6 +17,7 @@ use Rattle.lex_step_laws.proofs.Trivia.{follow_no_longer, hashbang_shorter, wron
 use Rattle.lex_run_laws.specs.Room.{room, room_by, room_under}
 use Rattle.lex_run_laws.specs.StepLists.{IsAtStart, AreSteps}
 use Rattle.lex_step_laws.proofs.Going.{Goes, goes, no_again, none_some}
+use Rattle.lex_step_laws.proofs.Bounds.{characters_kind}
 
 -- ---- how much room there is
 
@@ -127,9 +128,6 @@ behind_characters (t.ClassExpr ∷ cs) n = refl
 after_tail : (kind : ℕ) (from : List ℕ) (cs : List TokenContext) (n : ℕ) → kind ≡ template_kind
     → room_by (last_after kind from) (template_goal (contexts_after kind cs) (last_after kind from)) n ≡ 2 * n
 after_tail kind from cs n e = rw e (behind_characters cs n)
-
-pub characters_kind : (text : List ℕ) (x : SpecLexeme) (rest : List ℕ) → IsCharacters text x rest → x.token.kind ≡ template_kind
-characters_kind text x rest h = ap (λ (l : SpecLexeme). l.token.kind) h.6
 
 tail_room : (s new : State) (spot : Spot) → s.tokens.last ≢ Fault → template_goal s.settings.contexts s.tokens.last ≡ Some TemplateTail
     → IsRead TemplateTail false s.tokens.left s (Some spot) new → room new < room s

@@ -8,14 +8,13 @@ use Rattle.base_token.specs.Tokens.{Spot}
 use Rattle.lex_source.specs.Machine as machine
 use Rattle.lex_pieces.specs.Trivia.{NoHashbang, NoTrivia}
 use Rattle.lex_pieces.proofs.TriviaLemmas.{no_trivia}
-use Rattle.lex_literal.specs.declared.template.Ending.{Ending}
-use Rattle.lex_literal.specs.declared.template.Ending.TheVariants.{BackQuote, Substitution}
 use Rattle.lex_literal.specs.Templates as templates
 use Rattle.lex_token.specs.declared.goal.LexicalGoal.{LexicalGoal}
 use Rattle.lex_token.specs.declared.goal.LexicalGoal.TheVariants.{Div, RegExp, TemplateTail, TemplateEnd}
 use Rattle.lex_step_laws.specs.States.{Start, Fault, State, again, behind, contexts_after, ended, goal_of, is_start, spot_at, template_goal}
 use Rattle.lex_step_laws.specs.Steps.{IsGoing, IsStep}
 use Rattle.lex_step_laws.proofs.Going.{Goes, goes, last_going, no_again, none_some}
+use Rattle.lex_step_laws.proofs.StepLemmas.{no_ending}
 use Rattle.lex_source.specs.Canonical.Canonical.{Edge, edge_of, gap, own_bytes, text_behind}
 use Rattle.lex_source.specs.Canonical.Moved.{moved_to}
 use Rattle.lex_run_laws.specs.Turns.{Turn, Turns, asked, begin_at, end_at, is_reread, kept, moved_behind, told}
@@ -107,10 +106,6 @@ ends_goes s new a n h = by_goes (goes s new None a h)
 edge_going : (s : State) (last : Option Edge) → EdgeOf s last → s.tokens.last ≢ Fault
 edge_going s None e f = let k : Start ≡ Fault = sym e ∙ f in cc
 edge_going s (Some e) b f = last_going b.kind b.from (sym b.last ∙ f)
-
-no_ending : (f : Ending) (r : List ℕ) → templates.Ends f [] r → ⊥
-no_ending BackQuote r e = cc
-no_ending Substitution r e = cc
 
 -- where the text ends, no template is open
 end_goal : (s new : State) (last : Option Edge) (goal : Option LexicalGoal) → EdgeOf s last → template_goal s.settings.contexts s.tokens.last ≡ goal → IsGoing goal s None new → goal ≡ None

@@ -20,14 +20,13 @@ use Rattle.lex_literal.proofs.NumeralLemmas.{numeral_starts}
 use Rattle.lex_literal.proofs.TaggedLemmas.{tagged_is_read}
 use Rattle.lex_token.specs.declared.goal.LexicalGoal.TheVariants.{Div, RegExp}
 use Rattle.lex_token.specs.Lexemes.{SpecLexeme, IsCharacters, IsLexeme, IsMark, IsOutside, IsPattern, plain}
-use Rattle.lex_token.proofs.LexemeLemmas.{one_lexeme}
-use Rattle.lex_token.proofs.SortLemmas.{string_begins, word_begins}
+use Rattle.lex_token.proofs.LexemeLemmas.{one_lexeme, same_ending}
+use Rattle.lex_token.proofs.SortLemmas.{string_begins, word_begins, slash_no_opening}
 use Rattle.lex_step_laws.proofs.Bounds.{no_slash}
 use Rattle.lex_run_laws.specs.Turns.{is_slash_kind}
 use Rattle.lex_run_laws.proofs.Words.{Parted, same_own}
 use Rattle.lex_run_laws.proofs.Marks.{reg_exp_before}
-use Rattle.lex_run_laws.proofs.Fronts.{Free, slash_free, slash_no_opening}
-use Rattle.lex_run_laws.proofs.Behind.{same_ending}
+use Rattle.lex_run_laws.proofs.Fronts.{Free, slash_free}
 
 -- ---- templates and hashbangs
 

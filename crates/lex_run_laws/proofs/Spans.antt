@@ -1,5 +1,6 @@
 -- The places of tokens rise.
 use Rattle.std.proofs.Common.{◌≡◌, ℕ, ◌≤◌, inl, inr, Bool, false, List, [], ◌∷◌, Option, Some, None, refl, sym, ap, subst, arith}
+use Rattle.std.proofs.lemmas.Option.{same_Some}
 use Rattle.base_token.specs.Tokens.{Spot}
 use Rattle.lex_token.specs.declared.goal.LexicalGoal.{LexicalGoal}
 use Rattle.lex_token.specs.declared.goal.LexicalGoal.TheVariants.{Div}
@@ -10,7 +11,7 @@ use Rattle.lex_run_laws.specs.StepLists.{IsAtStart, NoReread, AreSteps}
 use Rattle.lex_source.specs.Machine.{told_of}
 use Rattle.lex_run_laws.specs.Spans.{Rise}
 use Rattle.lex_run_laws.proofs.Behind.{Behind, follow_behind, hashbang_behind, here, lexeme_behind, nothing_behind, place_rises}
-use Rattle.lex_step_laws.proofs.Going.{Goes, goes, no_again, none_some, same_some}
+use Rattle.lex_step_laws.proofs.Going.{Goes, goes, no_again, none_some}
 
 -- A token lies behind where the step began, and the next step begins where it ends.
 abbrev Lies : State → Spot → State → Type 0
@@ -30,10 +31,10 @@ lies_fault line_break from s new spot a lo hi e =
 read_lies : (goal : LexicalGoal) (line_break : Bool) (from : List ℕ) (s new : State) (spot : Spot) → Behind s.tokens.left from
     → IsRead goal line_break from s (Some spot) new → Lies s spot new
 read_lies goal line_break from s new spot a (inl h) =
-    let e = same_some h.3 in
+    let e = same_Some _ _ h.3 in
     lies_token line_break from h.0 h.1 s new spot a (lexeme_behind goal from h.0 h.1 h.2) (ap (λ (t : Spot). t.lo) e) (ap (λ (t : Spot). t.hi) e) h.4
 read_lies goal line_break from s new spot a (inr (inl h)) =
-    let e = same_some h.2 in
+    let e = same_Some _ _ h.2 in
     lies_fault line_break from s new spot a (ap (λ (t : Spot). t.lo) e) (ap (λ (t : Spot). t.hi) e) h.3
 read_lies goal line_break from s new spot a (inr (inr h)) = none_some (sym h.1)
 
@@ -41,13 +42,13 @@ plain_lies : (s new : State) (spot : Spot) → IsPlain s (Some spot) new → Lie
 plain_lies s new spot (inl h) =
     read_lies Div h.0 h.1 s new spot (follow_behind (goal_of s.settings.ctx) (is_start s.tokens.last) s.tokens.left h.2.0 h.1 h.2.1.0) h.3
 plain_lies s new spot (inr h) =
-    let e = same_some h.2 in
+    let e = same_Some _ _ h.2 in
     let a = follow_behind (goal_of s.settings.ctx) (is_start s.tokens.last) s.tokens.left h.1.0 h.0 h.1.1 in
     lies_fault false h.0 s new spot a (ap (λ (t : Spot). t.lo) e) (ap (λ (t : Spot). t.hi) e) h.3
 
 first_lies : (s new : State) (spot : Spot) → IsFirst s (Some spot) new → Lies s spot new
 first_lies s new spot (inl h) =
-    let e = same_some h.3 in
+    let e = same_Some _ _ h.3 in
     lies_token false s.tokens.left (shebang h.0) h.1 s new spot (here s.tokens.left s.tokens.left refl) (hashbang_behind s.tokens.left h.0 h.1 h.2)
     (ap (λ (t : Spot). t.lo) e) (ap (λ (t : Spot). t.hi) e) h.4
 first_lies s new spot (inr h) = plain_lies s new spot h.1

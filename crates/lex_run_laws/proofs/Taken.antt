@@ -1,5 +1,6 @@
 -- How a step takes a token.
 use Rattle.std.proofs.Common.{◌≡◌, ◌≢◌, ℕ, ◌⊎◌, inl, inr, Bool, false, List, [], ◌∷◌, ◌++◌, Option, Some, None, refl, sym, ap}
+use Rattle.std.proofs.lemmas.Option.{same_Some}
 use Rattle.base_token.specs.Kinds.{error_kind}
 use Rattle.base_token.specs.Tokens.{Spot}
 use Rattle.lex_source.specs.declared.contexts.TokenContext.{TokenContext}
@@ -11,7 +12,7 @@ use Rattle.lex_token.specs.Lexemes.{SpecLexeme, IsCharacters, IsEnd, IsLexeme}
 use Rattle.lex_step_laws.specs.States.{Last, Start, Slash, Characters, Fault, Other, State, behind, goal_of, is_start, shebang, spot_at, template_goal}
 use Rattle.lex_step_laws.specs.Steps.{IsFirst, IsGoing, IsOutside, IsPlain, IsRead}
 use Rattle.lex_run_laws.proofs.Behind.{Behind, follow_behind, hashbang_behind, here, lexeme_behind}
-use Rattle.lex_step_laws.proofs.Going.{none_some, same_some}
+use Rattle.lex_step_laws.proofs.Going.{none_some}
 
 -- the characters of a template, where they come
 pub record Tail (s : State) (line_break : Bool) (from : List ℕ) (x : SpecLexeme) (rest : List ℕ) : Type 0 where
@@ -62,8 +63,8 @@ pub record Took (s : State) (spot : Spot) (new : State) : Type 0 where
 pub read_token : (s : State) (line_break : Bool) (from : List ℕ) (spot : Spot) → spot.token.kind ≢ error_kind → (goal : LexicalGoal) (new : State)
     → IsRead goal line_break from s (Some spot) new → (x : SpecLexeme) × (rest : List ℕ) × IsLexeme goal from x rest
     × (spot ≡ spot_at s.tokens.end line_break x.token from rest) × (new ≡ behind s line_break from x rest)
-read_token s line_break from spot n goal new (inl h) = (h.0, h.1, h.2, same_some h.3, h.4)
-read_token s line_break from spot n goal new (inr (inl h)) = absurd (n (ap (λ (p : Spot). p.token.kind) (same_some h.2)))
+read_token s line_break from spot n goal new (inl h) = (h.0, h.1, h.2, same_Some _ _ h.3, h.4)
+read_token s line_break from spot n goal new (inr (inl h)) = absurd (n (ap (λ (p : Spot). p.token.kind) (same_Some _ _ h.2)))
 read_token s line_break from spot n goal new (inr (inr h)) = none_some (sym h.1)
 
 pub no_goal : (cs : List TokenContext) (l : Last) (goal : LexicalGoal) → goal ≢ TemplateTail → goal ≢ TemplateEnd → template_goal cs l ≡ Some goal → ⊥
@@ -76,11 +77,11 @@ no_goal (t.ParenExpr ∷ cs) l goal a b e = none_some e
 no_goal (t.Tpl ∷ cs) l goal a b e = tpl l e
   where
     tpl : (l : Last) → template_goal (t.Tpl ∷ cs) l ≡ Some goal → ⊥
-    tpl Start d = a (sym (same_some d))
-    tpl (Slash from) d = a (sym (same_some d))
-    tpl Characters d = b (sym (same_some d))
-    tpl Fault d = a (sym (same_some d))
-    tpl Other d = a (sym (same_some d))
+    tpl Start d = a (sym (same_Some _ _ d))
+    tpl (Slash from) d = a (sym (same_Some _ _ d))
+    tpl Characters d = b (sym (same_Some _ _ d))
+    tpl Fault d = a (sym (same_Some _ _ d))
+    tpl Other d = a (sym (same_Some _ _ d))
 no_goal (t.FnExpr ∷ cs) l goal a b e = none_some e
 no_goal (t.ClassExpr ∷ cs) l goal a b e = none_some e
 
@@ -100,7 +101,7 @@ plain_took s new spot n g (inl h) =
       new_is = r.4;
       how = inr (inr (inr (record { goal = g; skipped = h.2; is = r.2 })));
     }
-plain_took s new spot n g (inr h) = absurd (n (ap (λ (p : Spot). p.token.kind) (same_some h.2)))
+plain_took s new spot n g (inr h) = absurd (n (ap (λ (p : Spot). p.token.kind) (same_Some _ _ h.2)))
 
 first_took : (s new : State) (spot : Spot) → spot.token.kind ≢ error_kind → template_goal s.settings.contexts s.tokens.last ≡ None → s.tokens.last ≡ Start → IsFirst s (Some spot) new → Took s spot new
 first_took s new spot n g e (inl h) =
@@ -113,7 +114,7 @@ first_took s new spot n g e (inl h) =
       gone = here s.tokens.left s.tokens.left refl;
       own = b.0;
       cut = b.1;
-      spot_is = same_some h.3;
+      spot_is = same_Some _ _ h.3;
       new_is = h.4;
       how = inr (inr (inl (record { goal = g; start = e; here = refl; mark = refl; own = h.0; is = h.2; token = refl })));
     }

@@ -1,5 +1,6 @@
 -- Tokens and trivia tile the text.
 use Rattle.std.proofs.Common.{◌≡◌, ◌≢◌, ℕ, ◌⊎◌, inl, inr, ⊎_elim, Bool, false, List, [], ◌∷◌, Option, Some, None, refl, sym, ap, subst}
+use Rattle.std.proofs.lemmas.Option.{same_Some}
 use Rattle.base_token.specs.Kinds.{error_kind}
 use Rattle.base_token.specs.Tokens.{Spot}
 use Rattle.lex_token.specs.declared.goal.LexicalGoal.{LexicalGoal}
@@ -10,7 +11,7 @@ use Rattle.lex_step_laws.specs.Steps.{IsFirst, IsGoing, IsOutside, IsPlain, IsRe
 use Rattle.lex_run_laws.specs.StepLists.{Clean, IsAtStart, NoReread, AreSteps}
 use Rattle.lex_source.specs.Machine.{told_of}
 use Rattle.lex_run_laws.specs.Tilings.{AreTiles, IsBetween, IsHere, Tile}
-use Rattle.lex_step_laws.proofs.Going.{Goes, goes, last_going, no_again, none_some, same_some, start_going}
+use Rattle.lex_step_laws.proofs.Going.{Goes, goes, last_going, no_again, none_some, start_going}
 
 -- ---- a step that hands out a token
 
@@ -24,16 +25,16 @@ Taken s spot new = IsTaken s spot new ⊎ (spot.token.kind ≡ error_kind)
 
 read_taken : (goal : LexicalGoal) (line_break : Bool) (from : List ℕ) (s new : State) (spot : Spot) → IsBetween s.tokens.left line_break from
     → IsRead goal line_break from s (Some spot) new → Taken s spot new
-read_taken goal line_break from s new spot gap (inl h) = inl (line_break, from, h.0, h.1, gap, inl (goal, h.2), same_some h.3, h.4)
-read_taken goal line_break from s new spot gap (inr (inl h)) = inr (ap (λ (t : Spot). t.token.kind) (same_some h.2))
+read_taken goal line_break from s new spot gap (inl h) = inl (line_break, from, h.0, h.1, gap, inl (goal, h.2), same_Some _ _ h.3, h.4)
+read_taken goal line_break from s new spot gap (inr (inl h)) = inr (ap (λ (t : Spot). t.token.kind) (same_Some _ _ h.2))
 read_taken goal line_break from s new spot gap (inr (inr h)) = none_some (sym h.1)
 
 plain_taken : (s new : State) (spot : Spot) → IsPlain s (Some spot) new → Taken s spot new
 plain_taken s new spot (inl h) = read_taken Div h.0 h.1 s new spot (inr (goal_of s.settings.ctx, is_start s.tokens.last, h.2)) h.3
-plain_taken s new spot (inr h) = inr (ap (λ (t : Spot). t.token.kind) (same_some h.2))
+plain_taken s new spot (inr h) = inr (ap (λ (t : Spot). t.token.kind) (same_Some _ _ h.2))
 
 first_taken : (s new : State) (spot : Spot) → IsFirst s (Some spot) new → Taken s spot new
-first_taken s new spot (inl h) = inl (false, s.tokens.left, shebang h.0, h.1, inl (refl, refl), inr (h.0, h.2, refl), same_some h.3, h.4)
+first_taken s new spot (inl h) = inl (false, s.tokens.left, shebang h.0, h.1, inl (refl, refl), inr (h.0, h.2, refl), same_Some _ _ h.3, h.4)
 first_taken s new spot (inr h) = plain_taken s new spot h.1
 
 outside_taken : (last : Last) (s new : State) (spot : Spot) → IsOutside last s (Some spot) new → Taken s spot new

@@ -4,5 +4,6 @@ pub mod Contexts
 pub mod Faults
 pub mod Settings
 pub mod Machine
+pub mod Ahead
 pub mod Lending
 pub mod Looks

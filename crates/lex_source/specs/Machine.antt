@@ -50,6 +50,10 @@ abbrev pub StepGives : {S : Type 0} → Result (Option TokenAndSpan) Error → O
 StepGives (Ok t) step new = (option_map shown_spot t ≡ step.0) × (new ≡ step.1)
 StepGives (Err e) step new = e.kind ≡ Memory
 
+-- The token that a step put in a place, or none at the end, and the source behind it.
+abbrev pub IsPut : {S : Type 0} → Option Spot → Option Spot × Source S → Source S → Type 0
+IsPut put step new = (put ≡ step.0) × (new ≡ step.1)
+
 -- A step leaves what the source was told, and the faults that wait.
 pub record SameTold (old new : Settings) : Type 0 where
   pub syntax : new.syntax ≡ old.syntax

@@ -2,13 +2,17 @@
 //! (`canonical`).
 #![tactic(auto)]
 
+pub mod ahead;
 pub mod canonical;
 pub mod contexts;
 pub mod faults;
+pub mod kind_numbers;
+pub mod kinds;
 pub mod look;
 pub mod settings;
 pub mod tokens;
 
+pub use ahead::Ahead;
 pub use contexts::{TokenContext, TokenContexts};
 pub use faults::FaultLog;
 pub use look::Look;

@@ -4,13 +4,15 @@ ghost use Rattle.std.specs.Borrow.{Lends, sem};
 ghost use Rattle.base_token.specs.declared.error.SyntaxError.TheVariants.{Memory};
 ghost use Rattle.lex_source.specs.Contexts.{outward};
 ghost use Rattle.lex_source.specs.Looks.{seen};
-ghost use Rattle.lex_source.specs.Machine.{Machine, SameTold, Source, StepGives, shown_spot};
+ghost use Rattle.lex_source.specs.Machine.{IsPut, Machine, SameTold, Source, StepGives, shown_spot};
 ghost use Rattle.lex_source.specs.Settings as spec;
 ghost use Rattle.lex_source.specs.contracts.contexts.TokenContexts.{the_row as contexts_row};
 
+use crate::ahead::Ahead;
 use crate::contexts::TokenContexts;
 use crate::look::Look;
 use base_token::{BytePos, Context, Error, EsVersion, Syntax, TokenAndSpan};
+use std::alloc::AllocError;
 
 /// A source of tokens. It is told of the code around the next token, and records faults.
 pub trait Tokens<'a> {
@@ -37,6 +39,17 @@ pub trait Tokens<'a> {
     fn next(&mut self) -> Result<Option<TokenAndSpan<'a>>, Error>
         ensures value { StepGives result (machine.step (state self.old)) (state self.new) }
         ensures falls { IfOk result (λ t. MatchOption t (machine.bound (state self.new).tokens ≤ machine.bound (state self.old).tokens)
+            (λ _. machine.bound (state self.new).tokens < machine.bound (state self.old).tokens)) }
+        ensures told { SameTold (state self.old).settings (state self.new).settings };
+
+    /// The same, where the token is made where it waits: in the place of the one that waited there.
+    ///
+    /// # Errors
+    ///
+    /// Want of memory alone.
+    fn next_into(&mut self, ahead: &mut Ahead<'a>) -> Result<(), AllocError>
+        ensures value { OnOk result (IsPut ahead.new (machine.step (state self.old)) (state self.new)) }
+        ensures falls { OnOk result (MatchOption ahead.new (machine.bound (state self.new).tokens ≤ machine.bound (state self.old).tokens)
             (λ _. machine.bound (state self.new).tokens < machine.bound (state self.old).tokens)) }
         ensures told { SameTold (state self.old).settings (state self.new).settings };
 

@@ -4,6 +4,7 @@ use Rattle.std.specs.Prelude.{◌==◌, not, ◌++◌, max, nat_lt, bytes_eq, en
 use Rattle.std.proofs.Math.Nat.{le-max_left, le-max_right, max-le}
 use Rattle.std.proofs.lemmas.Bool.{cases_Bool, false≢true, and_parts, not-true}
 use Rattle.std.proofs.lemmas.Bool.Decides.{nat_tests}
+use Rattle.std.proofs.lemmas.Option.{same_Some}
 use Rattle.base_token.specs.declared.token.TokenKind.{TokenKind}
 use Rattle.base_token.specs.Kinds.{div_assign_kind, div_kind, name_kind, template_kind}
 use Rattle.base_token.specs.TokenViews.{token_kind_number}
@@ -255,15 +256,12 @@ again_falls from s new out e h =
     let t = token_shorter RegExp from x rest (λ e. cc) g in omega (arith, a, t, l, here))
     (omega (arith, k, here)) h
 
-same_some : {A : Type 0} {x y : A} → Some x ≡ Some y → x ≡ y
-same_some e = cc
-
 none_some : {A B : Type 0} {x : A} → None ≡ Some x → B
 none_some e = cc
 
 again_is : (last : Last) (at : Option ℕ) (end : ℕ) (from : List ℕ) → again_by last at end ≡ Some from → last ≡ Slash from
 again_is (Slash other) (Some p) end from e = ⊎_elim
-    (λ (t : (p == place end other) ≡ true). ap (λ (l : List ℕ). Slash l) (same_some (sym (ap (λ b. cond b (Some other) None) t) ∙ e)))
+    (λ (t : (p == place end other) ≡ true). ap (λ (l : List ℕ). Slash l) (same_Some _ _ (sym (ap (λ b. cond b (Some other) None) t) ∙ e)))
     (λ (f : (p == place end other) ≡ false). none_some (sym (ap (λ b. cond b (Some other) None) f) ∙ e))
     (cases_Bool (p == place end other))
 again_is (Slash other) None end from e = none_some e

@@ -1,5 +1,6 @@
 -- The end comes again.
 use Rattle.std.proofs.Common.{◌≡◌, ◌≢◌, ℕ, ◌≤◌, inl, inr, ⊎_elim, Bool, false, List, [], ◌∷◌, length, Option, Some, None, refl, sym, ap, subst, ◌∙◌, arith}
+use Rattle.std.proofs.lemmas.List.{nil_from_length}
 use Rattle.lex_source.specs.declared.contexts.TokenContext.{TokenContext}
 use Rattle.lex_source.specs.Machine.{SameContexts, told_of}
 use Rattle.lex_source.specs.Settings.{Settings}
@@ -9,7 +10,7 @@ use Rattle.lex_token.specs.declared.goal.LexicalGoal.TheVariants.{Div, TemplateT
 use Rattle.lex_step_laws.specs.States.{Last, Start, Slash, Characters, Fault, Other, State, again, ended, goal_of, is_start, template_goal}
 use Rattle.lex_step_laws.specs.Steps.{IsBadTrivia, IsGoing, IsOutside, IsPlain, IsRead, IsStep, IsStepBy, IsStepOf}
 use Rattle.lex_step_laws.proofs.Trivia.{follow_no_longer, skipped_or_bad, wrong_some}
-use Rattle.lex_step_laws.proofs.Going.{Goes, goes, no_again, none_left, none_some}
+use Rattle.lex_step_laws.proofs.Going.{Goes, goes, no_again, none_some}
 
 -- ---- a step to the end
 
@@ -40,7 +41,7 @@ same : (s : State) (settings : Settings) → told_of settings (ended s) ≡ ende
 same s settings = refl
 
 nil_left : (text : List ℕ) → length text ≤ 0 → text ≡ []
-nil_left text h = none_left text (omega (arith, h))
+nil_left text h = nil_from_length text (omega (arith, h))
 
 -- trivia at the end
 plain_again : (s : State) → s.tokens.left ≡ [] → s ≡ ended s → IsPlain s None s

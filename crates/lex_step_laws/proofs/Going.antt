@@ -1,14 +1,11 @@
 -- A step with no slash to be read again.
-use Rattle.std.proofs.Common.{◌≡◌, ◌≢◌, ℕ, ◌⊎◌, inl, inr, ⊎_elim, true, false, ◌||◌, List, [], ◌∷◌, length, Option, Some, None, refl, sym, ap, ◌∙◌, arith}
+use Rattle.std.proofs.Common.{◌≡◌, ◌≢◌, ℕ, ◌⊎◌, inl, inr, ⊎_elim, true, false, ◌||◌, List, Option, Some, None, refl, sym, ap, ◌∙◌}
 use Rattle.std.specs.Prelude.{◌==◌}
 use Rattle.std.proofs.lemmas.Bool.{cases_Bool}
 use Rattle.base_token.specs.Kinds.{div_assign_kind, div_kind, template_kind}
 use Rattle.base_token.specs.Tokens.{Spot}
 use Rattle.lex_step_laws.specs.States.{Last, Start, Slash, Characters, Fault, Other, State, again, again_by, last_after, template_goal}
 use Rattle.lex_step_laws.specs.Steps.{IsGoing, IsStep, IsStepBy, IsStepOf}
-
-pub same_some : {A : Type 0} {x y : A} → Some x ≡ Some y → x ≡ y
-same_some e = cc
 
 pub none_some : {A B : Type 0} {x : A} → None ≡ Some x → B
 none_some e = cc
@@ -59,9 +56,3 @@ last_going kind from = ⊎_elim
 
 pub start_going : (s : State) → s.tokens.last ≡ Start → s.tokens.last ≢ Fault
 start_going s e f = let k : Start ≡ Fault = sym e ∙ f in cc
-
--- ---- where nothing is left
-
-pub none_left : (cs : List ℕ) → length cs ≡ 0 → cs ≡ []
-none_left [] e = refl
-none_left (c ∷ cs) e = absurd (omega (arith, e))

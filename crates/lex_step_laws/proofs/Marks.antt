@@ -2,6 +2,7 @@
 use Rattle.std.proofs.Common.{◌≡◌, ℕ, ◌<◌, inl, inr, ⊎_elim, Bool, true, false, cond, ◌&&◌, List, [], ◌∷◌, ◌++◌, length, length-append, refl, sym, ap, ◌∙◌, arith}
 use Rattle.std.specs.Prelude.{◌==◌, not, Option, Some, None as Nothing}
 use Rattle.std.proofs.lemmas.Bool.{cases_Bool, false≢true, eqb-true, and_parts}
+use Rattle.std.proofs.lemmas.Option.{same_Some}
 use Rattle.base_token.specs.declared.token.TokenKind.{TokenKind}
 use Rattle.base_token.specs.Tokens.{bare}
 use Rattle.base_token.specs.TokenViews.{token_kind_number}
@@ -34,9 +35,6 @@ mark_or_not text = mark_by text (read_punctuator text) refl
 cut_by : (c : ℕ) (cs after : List ℕ) → ((body : List ℕ) × (cs ≡ body ++ 47 ∷ after)) → (body : List ℕ) × (c ∷ cs ≡ body ++ 47 ∷ after)
 cut_by c cs after h = (c ∷ h.0, ap (λ (l : List ℕ). c ∷ l) h.1)
 
-some_same : (x y : List ℕ) → Some x ≡ Some y → x ≡ y
-some_same x y e = cc
-
 body_cut : (esc k : Bool) (text after : List ℕ) → past_body esc k text ≡ Some after → (body : List ℕ) × (text ≡ body ++ 47 ∷ after)
 body_cut true k [] after h = none_some h
 body_cut true k (c ∷ cs) after h = ⊎_elim
@@ -54,7 +52,7 @@ body_cut false k (c ∷ cs) after h =
     (λ (back : (c == 92) ≡ false).
     let h2 : last ≡ Some after = sym (ap (λ b. cond b (past_body true k cs) last) back) ∙ h1 in ⊎_elim
     (λ (slash : (c == 47 && not k) ≡ true).
-    let same = some_same cs after (sym (ap (λ b. cond b (Some cs) (past_body false (class_after k c) cs)) slash) ∙ h2) in
+    let same = same_Some cs after (sym (ap (λ b. cond b (Some cs) (past_body false (class_after k c) cs)) slash) ∙ h2) in
     ([], ap (λ (d : ℕ). d ∷ cs) (eqb-true c 47 (and_parts (c == 47) (not k) slash).0) ∙ ap (λ (l : List ℕ). 47 ∷ l) same))
     (λ (slash : (c == 47 && not k) ≡ false).
     cut_by c cs after (body_cut false (class_after k c) cs after (sym (ap (λ b. cond b (Some cs) (past_body false (class_after k c) cs)) slash) ∙ h2)))

@@ -15,7 +15,7 @@ use Rattle.lex_step_laws.proofs.TriviaLemmas.{one_bad, one_hashbang, one_skipped
 abbrev Same : Option Spot → Option Spot → State → State → Type 0
 Same a b new other = (a ≡ b) × (new ≡ other)
 
-no_ending : (ending : Ending) (rest : List ℕ) → templates.Ends ending [] rest → ⊥
+pub no_ending : (ending : Ending) (rest : List ℕ) → templates.Ends ending [] rest → ⊥
 no_ending BackQuote rest e = cc
 no_ending Substitution rest e = cc
 

@@ -2,6 +2,7 @@
 use Rattle.std.proofs.Common.{◌≡◌, ◌≢◌, ℕ, ◌⊎◌, inl, inr, ⊎_elim, Bool, false, List, [], ◌∷◌, Option, Some, None, refl, sym}
 use Rattle.base_token.specs.Tokens.{Spot}
 use Rattle.lex_pieces.specs.Trivia.{IsHashbang, IsSkipped, NoHashbang}
+use Rattle.lex_pieces.proofs.ListLemmas.{nil_cons}
 use Rattle.lex_token.specs.declared.goal.LexicalGoal.{LexicalGoal}
 use Rattle.lex_token.specs.declared.goal.LexicalGoal.TheVariants.{Div, RegExp, TemplateTail, TemplateEnd}
 use Rattle.lex_token.specs.Lexemes.{IsLexeme}
@@ -9,7 +10,7 @@ use Rattle.lex_step_laws.specs.States as states
 use Rattle.lex_step_laws.specs.States.{Last, Start, Slash, Characters, Fault, Other, State, again, behind, ended, faulty, goal_of, is_start, shebang, spot_at, stopped, template_goal}
 use Rattle.lex_step_laws.specs.Steps.{Ends, IsBadTrivia, IsFirst, IsGoing, IsOutside, IsPlain, IsRead, IsStep, IsStepBy, IsStepOf}
 use Rattle.lex_step_laws.proofs.Deciding as deciding
-use Rattle.lex_step_laws.proofs.Deciding.{Decided, no_nil}
+use Rattle.lex_step_laws.proofs.Deciding.{Decided}
 use Rattle.lex_step_laws.proofs.Tokens.{token_or_not}
 use Rattle.lex_step_laws.proofs.Trivia.{hashbang_or_not, skipped_or_bad}
 
@@ -19,7 +20,7 @@ Some_Step Is = (out : Option Spot) × (new : State) × Is out new
 
 nil_or_not : (from : List ℕ) → (from ≡ []) ⊎ (from ≡ [] → ⊥)
 nil_or_not [] = inl refl
-nil_or_not (c ∷ cs) = inr (λ e. no_nil c cs (sym e))
+nil_or_not (c ∷ cs) = inr (λ e. nil_cons c cs (sym e))
 
 ends_by : (goal : LexicalGoal) (from : List ℕ) → (goal ≢ TemplateTail) → Ends goal from ⊎ (Ends goal from → ⊥)
 ends_by goal from n = ⊎_elim

@@ -1,7 +1,7 @@
 -- Whether a string stands at a front.
 use Rattle.std.proofs.Common.{◌≡◌, ℕ, zero, suc, ◌<◌, ◌≤◌, ◌⊎◌, inl, inr, ⊎_elim, Bool, true, false, List, [], ◌∷◌, ◌++◌, length, length-append, refl, sym, ap, subst, ◌∙◌, arith}
 use Rattle.std.specs.Prelude.{◌||◌, Some, None as Nothing}
-use Rattle.std.proofs.lemmas.Bool.{cases_Bool, false≢true}
+use Rattle.std.proofs.lemmas.Bool.{cases_Bool, false≢true, cases_eq}
 use Rattle.lex_pieces.specs.Runs.{after, run}
 use Rattle.base_token.specs.Utf16.{utf16}
 use Rattle.lex_literal.specs.declared.escape.Escape.{Escape}
@@ -14,7 +14,7 @@ use Rattle.lex_literal.proofs.EscapeLemmas.{escape_front, found_stands, none_sta
 use Rattle.lex_literal.proofs.StringLemmas.{SoFar, so_far_none, so_far_plain, so_far_escape, spelled, no_string, stuck_end, stuck_char, stuck_escape, ends_with}
 use Rattle.lex_token.specs.Lexemes.{SpecLexeme, IsQuoted, string_lexeme}
 use Rattle.lex_token.proofs.SortLemmas.{string_begins}
-use Rattle.lex_step_laws.proofs.Deciding.{Decided, same_number}
+use Rattle.lex_step_laws.proofs.Deciding.{Decided}
 
 after_shorter : (p : ℕ → Bool) (cs : List ℕ) → length (after p cs) ≤ length cs
 after_shorter p [] = omega arith
@@ -60,8 +60,8 @@ string_by (suc n) quote inner (c ∷ cs) us l q s h = ⊎_elim
     (let short = after_first (is_plain quote) c cs p in omega (arith, short, h)))
     (λ (p : is_plain quote c ≡ false). inr (no_string quote inner (c ∷ cs) us l q s (stuck_char quote c cs p f g)))
     (cases_Bool (is_plain quote c)))
-    (same_number c 92))
-    (same_number c quote)
+    (cases_eq c 92))
+    (cases_eq c quote)
 
 quoted_by : (quote : ℕ) (inner : List ℕ) → Whole quote inner → Decided IsQuoted (quote ∷ inner)
 quoted_by quote inner (inl h) = inl (string_lexeme h.0 h.4.0 h.1, h.2, (h.0, h.4.0, h.1, h.3, h.4.1, refl))

@@ -1,7 +1,7 @@
 -- Whether the characters of a template stand at a front, up to what ends them.
 use Rattle.std.proofs.Common.{◌≡◌, ℕ, zero, suc, ◌<◌, ◌≤◌, ◌⊎◌, inl, inr, ⊎_elim, true, false, ◌&&◌, List, [], ◌∷◌, ◌++◌, length, length-append, append_assoc, refl, sym, ap, subst, ◌∙◌, arith}
 use Rattle.std.specs.Prelude.{◌==◌, Option, Some, None as Nothing}
-use Rattle.std.proofs.lemmas.Bool.{cases_Bool, false≢true, eqb-true, and_parts}
+use Rattle.std.proofs.lemmas.Bool.{cases_Bool, false≢true, eqb-true, and_parts, cases_eq}
 use Rattle.std.proofs.lemmas.Bool.Decides.{nat_tests}
 use Rattle.lex_literal.specs.declared.escape.Escape.{Escape}
 use Rattle.lex_literal.specs.declared.template.Ending.{Ending}
@@ -13,8 +13,10 @@ use Rattle.lex_literal.specs.Templates.{Part, Bare, Break, Escaped, Bad, Stands,
 use Rattle.lex_literal.proofs.EscapeLemmas.{escape_front, found_stands, none_stands, one_escape}
 use Rattle.lex_literal.proofs.TemplateLemmas.{none_at_end, one_rest}
 use Rattle.lex_token.specs.Lexemes.{SpecLexeme, IsCharacters, IsEnd, ending_kind, plain, template_lexeme}
+use Rattle.lex_token.proofs.LexemeLemmas.{same_ending}
 use Rattle.base_token.specs.Tokens.{bare}
-use Rattle.lex_step_laws.proofs.Deciding.{Decided, heads, tails, no_nil, same_number}
+use Rattle.lex_pieces.proofs.ListLemmas.{same_head, same_tail, nil_cons}
+use Rattle.lex_step_laws.proofs.Deciding.{Decided}
 
 -- ---- what ends a piece
 
@@ -26,24 +28,24 @@ no_ending text n m BackQuote r h = n r h
 no_ending text n m Substitution r h = m r h
 
 brace_or_not : (c : ℕ) (cs : List ℕ) → (c ≡ 96 → ⊥) → Ending_At (c ∷ cs)
-brace_or_not c [] n = inr (no_ending (c ∷ []) (λ r e. n (heads c 96 [] r e)) (λ r e. no_nil 123 r (tails c 36 [] (123 ∷ r) e)))
+brace_or_not c [] n = inr (no_ending (c ∷ []) (λ r e. n (same_head c 96 [] r e)) (λ r e. nil_cons 123 r (same_tail c 36 [] (123 ∷ r) e)))
 brace_or_not c (d ∷ ds) n = ⊎_elim
     (λ (t : (c == 36 && d == 123) ≡ true).
     let p = and_parts (c == 36) (d == 123) t in
     inl (Substitution, ds, ap (λ (x : ℕ). x ∷ d ∷ ds) (eqb-true c 36 p.0) ∙ ap (λ (x : ℕ). 36 ∷ x ∷ ds) (eqb-true d 123 p.1)))
-    (λ (f : (c == 36 && d == 123) ≡ false). inr (no_ending (c ∷ d ∷ ds) (λ r e. n (heads c 96 (d ∷ ds) r e)) (λ r e.
-    let first : c ≡ 36 = heads c 36 (d ∷ ds) (123 ∷ r) e in
-    let second : d ≡ 123 = heads d 123 ds r (tails c 36 (d ∷ ds) (123 ∷ r) e) in
+    (λ (f : (c == 36 && d == 123) ≡ false). inr (no_ending (c ∷ d ∷ ds) (λ r e. n (same_head c 96 (d ∷ ds) r e)) (λ r e.
+    let first : c ≡ 36 = same_head c 36 (d ∷ ds) (123 ∷ r) e in
+    let second : d ≡ 123 = same_head d 123 ds r (same_tail c 36 (d ∷ ds) (123 ∷ r) e) in
     let k : (c == 36 && d == 123) ≡ true = rw (first, second) refl in
     false≢true (sym f ∙ k))))
     (cases_Bool (c == 36 && d == 123))
 
 pub ending_or_not : (text : List ℕ) → Ending_At text
-ending_or_not [] = inr (no_ending [] (λ r e. no_nil 96 r e) (λ r e. no_nil 36 (123 ∷ r) e))
+ending_or_not [] = inr (no_ending [] (λ r e. nil_cons 96 r e) (λ r e. nil_cons 36 (123 ∷ r) e))
 ending_or_not (c ∷ cs) = ⊎_elim
     (λ (e : c ≡ 96). inl (BackQuote, cs, ap (λ (x : ℕ). x ∷ cs) e))
     (λ (n : c ≡ 96 → ⊥). brace_or_not c cs n)
-    (same_number c 96)
+    (cases_eq c 96)
 
 pub end_or_not : (text : List ℕ) → Decided IsEnd text
 end_or_not text = ⊎_elim
@@ -105,21 +107,21 @@ escape_part c cs (Some (x, r)) e =
     (cases_Bool (is_legacy x))
 
 no_part_nil : (p : Part) (r : List ℕ) → Stands p [] r → ⊥
-no_part_nil (Bare c) r h = no_nil c r h.0
-no_part_nil Break r (inl e) = no_nil 13 (10 ∷ r) e
-no_part_nil Break r (inr e) = no_nil 13 r e.0
-no_part_nil (Escaped e) r h = no_nil 92 h.0 h.1
-no_part_nil (Bad c) r h = no_nil 92 (c ∷ r) h.0
+no_part_nil (Bare c) r h = nil_cons c r h.0
+no_part_nil Break r (inl e) = nil_cons 13 (10 ∷ r) e
+no_part_nil Break r (inr e) = nil_cons 13 r e.0
+no_part_nil (Escaped e) r h = nil_cons 92 h.0 h.1
+no_part_nil (Bad c) r h = nil_cons 92 (c ∷ r) h.0
 
 no_break : (c : ℕ) (r : List ℕ) → 92 ∷ [] ≡ 13 ∷ r → ⊥
-no_break c r e = let k = heads 92 13 [] r e in omega (arith, k)
+no_break c r e = let k = same_head 92 13 [] r e in omega (arith, k)
 
 no_part_lone : (p : Part) (r : List ℕ) → Stands p (92 ∷ []) r → ⊥
-no_part_lone (Bare c) r h = false≢true (ap is_bare (heads 92 c [] r h.0) ∙ h.1)
+no_part_lone (Bare c) r h = false≢true (ap is_bare (same_head 92 c [] r h.0) ∙ h.1)
 no_part_lone Break r (inl e) = no_break 0 (10 ∷ r) e
 no_part_lone Break r (inr e) = no_break 0 r e.0
-no_part_lone (Escaped e) r h = none_stands [] refl e r (subst (λ t. IsEscape e t r) (sym (tails 92 92 [] h.0 h.1)) h.2)
-no_part_lone (Bad c) r h = no_nil c r (tails 92 92 [] (c ∷ r) h.0)
+no_part_lone (Escaped e) r h = none_stands [] refl e r (subst (λ t. IsEscape e t r) (sym (same_tail 92 92 [] h.0 h.1)) h.2)
+no_part_lone (Bad c) r h = nil_cons c r (same_tail 92 92 [] (c ∷ r) h.0)
 
 backslash_at : (cs : List ℕ) → Part_At (92 ∷ cs)
 backslash_at [] = inr no_part_lone
@@ -151,8 +153,8 @@ part_or_not (c ∷ cs) n = ⊎_elim
       some = omega arith;
       stands = (refl, is_bare_by c quote no_backslash no_return, not_brace c cs (λ r e. n Substitution r e));
     }))
-    (same_number c 92))
-    (same_number c 13)
+    (cases_eq c 92))
+    (cases_eq c 13)
 
 -- ---- a piece
 
@@ -210,10 +212,6 @@ characters_or_not text = ⊎_elim
     (piece_or_not (length text) text (omega arith))
 
 -- ---- characters take no more than there is
-
-same_ending : (ending : Ending) (a b r : List ℕ) → Ends ending a r → Ends ending b r → a ≡ b
-same_ending BackQuote a b r h g = h ∙ sym g
-same_ending Substitution a b r h g = h ∙ sym g
 
 pub characters_no_longer : (text : List ℕ) (x : SpecLexeme) (rest : List ℕ) → IsCharacters text x rest → length rest ≤ length text
 characters_no_longer text x rest h =

@@ -15,8 +15,8 @@ use Rattle.lex_pieces.specs.declared.trivia.Goal.{Goal}
 use Rattle.lex_pieces.specs.declared.trivia.LineMark.{LineMark}
 use Rattle.lex_pieces.specs.declared.trivia.LineMark.TheVariants.{Slashes, HtmlOpen, HtmlClose}
 use Rattle.lex_pieces.proofs.TriviaLemmas.{is_fault, is_piece, no_trivia, run_is}
+use Rattle.lex_pieces.proofs.ListLemmas.{same_head, same_tail, nil_cons}
 use Rattle.lex_step_laws.specs.Steps.{IsBadTrivia}
-use Rattle.lex_step_laws.proofs.Deciding.{heads, tails, no_nil}
 
 -- ---- a piece takes characters
 
@@ -110,14 +110,14 @@ bang_by a b inner t =
 
 no_bang : (a b : ℕ) (inner : List ℕ) → (a == 35 && b == 33) ≡ false → NoHashbang (a ∷ b ∷ inner)
 no_bang a b inner f more e =
-    let first : a ≡ 35 = heads a 35 (b ∷ inner) (33 ∷ more) e in
-    let second : b ≡ 33 = heads b 33 inner more (tails a 35 (b ∷ inner) (33 ∷ more) e) in
+    let first : a ≡ 35 = same_head a 35 (b ∷ inner) (33 ∷ more) e in
+    let second : b ≡ 33 = same_head b 33 inner more (same_tail a 35 (b ∷ inner) (33 ∷ more) e) in
     let k : (a == 35 && b == 33) ≡ true = rw (first, second) refl in
     false≢true (sym f ∙ k)
 
 pub hashbang_or_not : (text : List ℕ) → ((own : List ℕ) × (rest : List ℕ) × IsHashbang text own rest) ⊎ NoHashbang text
-hashbang_or_not [] = inr (λ inner e. no_nil 35 (33 ∷ inner) e)
-hashbang_or_not (a ∷ []) = inr (λ inner e. no_nil 33 inner (tails a 35 [] (33 ∷ inner) e))
+hashbang_or_not [] = inr (λ inner e. nil_cons 35 (33 ∷ inner) e)
+hashbang_or_not (a ∷ []) = inr (λ inner e. nil_cons 33 inner (same_tail a 35 [] (33 ∷ inner) e))
 hashbang_or_not (a ∷ b ∷ inner) = ⊎_elim
     (λ (t : (a == 35 && b == 33) ≡ true). inl (bang_by a b inner t))
     (λ (f : (a == 35 && b == 33) ≡ false). inr (no_bang a b inner f))

@@ -7,6 +7,7 @@ use Rattle.lex_pieces.specs.declared.trivia.Goal.{Goal}
 use Rattle.lex_pieces.specs.Runs.{Each, Ends}
 use Rattle.lex_pieces.specs.Trivia.{Piece, Follow, IsHashbang, IsLegacy, IsOpenBlock, IsSkipped, NoPiece, NoTrivia, breaks}
 use Rattle.lex_pieces.proofs.TriviaLemmas.{one_piece}
+use Rattle.lex_pieces.proofs.ListLemmas.{same_head, same_tail}
 use Rattle.lex_step_laws.specs.Steps.{IsBadTrivia}
 
 -- Pieces after which no other comes are all that there are.
@@ -51,21 +52,15 @@ skipped_not_bad goal first text b r q h g =
 
 -- ---- the rest of a line
 
-head_same : (a b : ℕ) (xs ys : List ℕ) → a ∷ xs ≡ b ∷ ys → a ≡ b
-head_same a b xs ys e = cc
-
-tail_same : (a b : ℕ) (xs ys : List ℕ) → a ∷ xs ≡ b ∷ ys → xs ≡ ys
-tail_same a b xs ys e = cc
-
 one_run : (p : ℕ → Bool) (a b r s : List ℕ) → a ++ r ≡ b ++ s → Each p a → Ends p r → Each p b → Ends p s → (a ≡ b) × (r ≡ s)
 one_run p [] [] r s e h x g y = (refl, e)
 one_run p [] (d ∷ ds) r s e h x g y = absurd (false≢true (sym (subst (Ends p) e x) ∙ g.0))
 one_run p (c ∷ cs) [] r s e h x g y = absurd (false≢true (sym (subst (Ends p) (sym e) y) ∙ h.0))
 one_run p (c ∷ cs) (d ∷ ds) r s e h x g y =
-    let w = one_run p cs ds r s (tail_same c d (cs ++ r) (ds ++ s) e) h.1 x g.1 y in
-    (ap (λ (k : ℕ). k ∷ cs) (head_same c d (cs ++ r) (ds ++ s) e) ∙ ap (λ (l : List ℕ). d ∷ l) w.0, w.1)
+    let w = one_run p cs ds r s (same_tail c d (cs ++ r) (ds ++ s) e) h.1 x g.1 y in
+    (ap (λ (k : ℕ). k ∷ cs) (same_head c d (cs ++ r) (ds ++ s) e) ∙ ap (λ (l : List ℕ). d ∷ l) w.0, w.1)
 
 pub one_hashbang : (text a b r s : List ℕ) → IsHashbang text a r → IsHashbang text b s → (a ≡ b) × (r ≡ s)
 one_hashbang text a b r s h g =
-    let inner = tail_same 33 33 h.0 g.0 (tail_same 35 35 (33 ∷ h.0) (33 ∷ g.0) (sym h.1 ∙ g.1)) in
+    let inner = same_tail 33 33 h.0 g.0 (same_tail 35 35 (33 ∷ h.0) (33 ∷ g.0) (sym h.1 ∙ g.1)) in
     one_run _ a b r s (sym h.2.0 ∙ inner ∙ g.2.0) h.2.1 h.2.2 g.2.1 g.2.2

@@ -8,9 +8,10 @@ use Rattle.lex_pieces.specs.Escapes.{Coded, IsDigits, IsEscape, digits}
 use Rattle.lex_pieces.specs.Names.{IsName, IsNameChar, Spell, is_continuing, is_name_char}
 use Rattle.lex_pieces.specs.Runs.{Ends}
 use Rattle.lex_pieces.proofs.EscapeLemmas.{digits_is, reads_digits, one_escape}
-use Rattle.lex_pieces.proofs.NameLemmas.{backslash}
+use Rattle.lex_pieces.proofs.NameLemmas.{one_char}
+use Rattle.lex_pieces.proofs.ListLemmas.{same_head, same_tail, nil_cons}
 use Rattle.lex_token.specs.Lexemes.{SpecLexeme, IsMarked, IsWord, word_lexeme}
-use Rattle.lex_step_laws.proofs.Deciding.{Found, None, Decided, heads, tails, no_nil, same_list, ends_or_not}
+use Rattle.lex_step_laws.proofs.Deciding.{Found, None, Decided, same_list, ends_or_not}
 
 -- ---- escapes
 
@@ -33,18 +34,18 @@ escape_by a b inner t (inl h) =
     let p = and_parts (a == 92) (b == 117) t in
     inl (h.0, h.1, (inner, ap (λ (c : ℕ). c ∷ b ∷ inner) (eqb-true a 92 p.0) ∙ ap (λ (c : ℕ). 92 ∷ c ∷ inner) (eqb-true b 117 p.1), h.2))
 escape_by a b inner t (inr h) =
-    inr (λ v rest g. h v rest (subst (λ l. IsDigits l v rest) (sym (tails b 117 inner g.0 (tails a 92 (b ∷ inner) (117 ∷ g.0) g.1))) g.2))
+    inr (λ v rest g. h v rest (subst (λ l. IsDigits l v rest) (sym (same_tail b 117 inner g.0 (same_tail a 92 (b ∷ inner) (117 ∷ g.0) g.1))) g.2))
 
 no_escape_by : (a b : ℕ) (inner : List ℕ) → (a == 92 && b == 117) ≡ false → None IsEscape (a ∷ b ∷ inner)
 no_escape_by a b inner f v rest g =
-    let first : a ≡ 92 = heads a 92 (b ∷ inner) (117 ∷ g.0) g.1 in
-    let second : b ≡ 117 = heads b 117 inner g.0 (tails a 92 (b ∷ inner) (117 ∷ g.0) g.1) in
+    let first : a ≡ 92 = same_head a 92 (b ∷ inner) (117 ∷ g.0) g.1 in
+    let second : b ≡ 117 = same_head b 117 inner g.0 (same_tail a 92 (b ∷ inner) (117 ∷ g.0) g.1) in
     let k : (a == 92 && b == 117) ≡ true = rw (first, second) refl in
     false≢true (sym f ∙ k)
 
 escape_or_not : (text : List ℕ) → Decided IsEscape text
-escape_or_not [] = inr (λ v rest g. no_nil 92 (117 ∷ g.0) g.1)
-escape_or_not (a ∷ []) = inr (λ v rest g. no_nil 117 g.0 (tails a 92 [] (117 ∷ g.0) g.1))
+escape_or_not [] = inr (λ v rest g. nil_cons 92 (117 ∷ g.0) g.1)
+escape_or_not (a ∷ []) = inr (λ v rest g. nil_cons 117 g.0 (same_tail a 92 [] (117 ∷ g.0) g.1))
 escape_or_not (a ∷ b ∷ inner) = ⊎_elim
     (λ (t : (a == 92 && b == 117) ≡ true). escape_by a b inner t (by_digits inner (digits inner) refl))
     (λ (f : (a == 92 && b == 117) ≡ false). inr (no_escape_by a b inner f))
@@ -60,15 +61,15 @@ char_shorter first text c rest h = ⊎_elim
 
 no_char_nil : (first : Bool) → None (IsNameChar first) []
 no_char_nil first c rest h = ⊎_elim
-    (λ (e : [] ≡ c ∷ rest). no_nil c rest e)
-    (λ (g : IsScalar c × IsEscape [] c rest). no_nil 92 (117 ∷ g.1.0) g.1.1)
+    (λ (e : [] ≡ c ∷ rest). nil_cons c rest e)
+    (λ (g : IsScalar c × IsEscape [] c rest). nil_cons 92 (117 ∷ g.1.0) g.1.1)
     h.1
 
 -- a bare character that is none of a name, and no escape of one
 no_char_by : (first : Bool) (d : ℕ) (ds : List ℕ) → is_name_char first d ≡ false
     → ((c : ℕ) (rest : List ℕ) → IsEscape (d ∷ ds) c rest → IsScalar c → is_name_char first c ≡ true → ⊥) → None (IsNameChar first) (d ∷ ds)
 no_char_by first d ds f n c rest h = ⊎_elim
-    (λ (e : d ∷ ds ≡ c ∷ rest). false≢true (sym f ∙ ap (is_name_char first) (heads d c ds rest e) ∙ h.0))
+    (λ (e : d ∷ ds ≡ c ∷ rest). false≢true (sym f ∙ ap (is_name_char first) (same_head d c ds rest e) ∙ h.0))
     (λ (g : IsScalar c × IsEscape (d ∷ ds) c rest). n c rest g.1 g.0 h.0)
     h.1
 
@@ -90,16 +91,6 @@ char_or_not first (d ∷ ds) = ⊎_elim
     (λ (t : is_name_char first d ≡ true). inl (d, ds, (t, inl refl)))
     (λ (f : is_name_char first d ≡ false). escaped_by first d ds f (escape_or_not (d ∷ ds)))
     (cases_Bool (is_name_char first d))
-
-bare_escaped : (first : Bool) (text : List ℕ) (c d : ℕ) (r s : List ℕ) → is_name_char first c ≡ true → text ≡ c ∷ r → IsEscape text d s → ⊥
-bare_escaped first text c d r s p e g =
-    false≢true (sym (backslash first) ∙ ap (is_name_char first) (heads 92 c (117 ∷ g.0) r (sym g.1 ∙ e)) ∙ p)
-
-one_char : (first : Bool) (text : List ℕ) (c d : ℕ) (r s : List ℕ) → IsNameChar first text c r → IsNameChar first text d s → (c ≡ d) × (r ≡ s)
-one_char first text c d r s (p, inl e) (q, inl g) = (heads c d r s (sym e ∙ g), tails c d r s (sym e ∙ g))
-one_char first text c d r s (p, inl e) (q, inr g) = absurd (bare_escaped first text c d r s p e g.1)
-one_char first text c d r s (p, inr g) (q, inl e) = absurd (bare_escaped first text d c s r q e g.1)
-one_char first text c d r s (p, inr g) (q, inr h) = one_escape text c d r s g.1 h.1
 
 -- ---- names
 
@@ -146,7 +137,7 @@ no_name text n [] rest h = h.0 refl
 no_name text n (c ∷ cs) rest h = n c cs rest (h.1, h.2)
 
 no_list : (c : ℕ) (cs : List ℕ) → c ∷ cs ≢ []
-no_list c cs e = no_nil c cs (sym e)
+no_list c cs e = nil_cons c cs (sym e)
 
 name_or_not : (text : List ℕ) → Decided IsName text
 name_or_not text = ⊎_elim

@@ -7,6 +7,7 @@ use Rattle.base_token.specs.declared.error.Error.{Error}
 use Rattle.lex_pieces.proofs.Longest.{one_punctuator}
 use Rattle.lex_pieces.proofs.NameLemmas.{one_name}
 use Rattle.lex_pieces.proofs.RegExpLemmas.{one_reg_exp}
+use Rattle.lex_pieces.proofs.ListLemmas.{same_head, same_tail}
 use Rattle.base_token.specs.Tokens.{bare}
 use Rattle.base_token.specs.TokenViews.{token_kind_number}
 use Rattle.lex_pieces.specs.Names.{IsNameFault}
@@ -71,30 +72,24 @@ one_mark text x y r s h g =
 
 -- ---- templates
 
-ends_same : (a : Ending) (r s behind : List ℕ) → Ends a r behind → Ends a s behind → r ≡ s
-ends_same BackQuote r s behind h g = h ∙ sym g
-ends_same Substitution r s behind h g = h ∙ sym g
+pub same_ending : (ending : Ending) (a b r : List ℕ) → Ends ending a r → Ends ending b r → a ≡ b
+same_ending BackQuote a b r h g = h ∙ sym g
+same_ending Substitution a b r h g = h ∙ sym g
 
 one_characters : (text : List ℕ) (x y : SpecLexeme) (r s : List ℕ) → IsCharacters text x r → IsCharacters text y s → Same x y r s
 one_characters text x y r s h g =
     let k = one_piece h.0 g.0 h.1 g.1 h.2 g.2 text h.3 g.3 h.4 g.4 in
     let e = subst (λ b. Ends g.2 r b) k.3 (subst (λ a. Ends a r h.3) k.2 h.5) in
-    (h.6 ∙ ap (λ o. template_lexeme o h.1) k.0 ∙ ap (template_lexeme g.0) k.1 ∙ sym g.6, ends_same g.2 r s g.3 e g.5)
-
-heads : (a b : ℕ) (xs ys : List ℕ) → a ∷ xs ≡ b ∷ ys → a ≡ b
-heads a b xs ys e = cc
-
-tails : (a b : ℕ) (xs ys : List ℕ) → a ∷ xs ≡ b ∷ ys → xs ≡ ys
-tails a b xs ys e = cc
+    (h.6 ∙ ap (λ o. template_lexeme o h.1) k.0 ∙ ap (template_lexeme g.0) k.1 ∙ sym g.6, same_ending g.2 r s g.3 e g.5)
 
 quote_apart : (r s : List ℕ) → 96 ∷ r ≡ 36 ∷ 123 ∷ s → ⊥
-quote_apart r s e = let k = heads 96 36 r (123 ∷ s) e in omega (arith, k)
+quote_apart r s e = let k = same_head 96 36 r (123 ∷ s) e in omega (arith, k)
 
 one_ending : (text : List ℕ) (a b : Ending) (r s : List ℕ) → Ends a text r → Ends b text s → (a ≡ b) × (r ≡ s)
-one_ending text BackQuote BackQuote r s h g = (refl, tails 96 96 r s (sym h ∙ g))
+one_ending text BackQuote BackQuote r s h g = (refl, same_tail 96 96 r s (sym h ∙ g))
 one_ending text BackQuote Substitution r s h g = absurd (quote_apart r s (sym h ∙ g))
 one_ending text Substitution BackQuote r s h g = absurd (quote_apart s r (sym g ∙ h))
-one_ending text Substitution Substitution r s h g = (refl, tails 123 123 r s (tails 36 36 (123 ∷ r) (123 ∷ s) (sym h ∙ g)))
+one_ending text Substitution Substitution r s h g = (refl, same_tail 123 123 r s (same_tail 36 36 (123 ∷ r) (123 ∷ s) (sym h ∙ g)))
 
 one_end : (text : List ℕ) (x y : SpecLexeme) (r s : List ℕ) → IsEnd text x r → IsEnd text y s → Same x y r s
 one_end text x y r s h g =

@@ -3,7 +3,7 @@ use Rattle.std.proofs.Common.{◌≡◌, ℕ, ◌<◌, ◌≤◌, inl, inr, ⊎_
 use Rattle.std.specs.Char.{is_ascii}
 use Rattle.std.specs.Prelude.{◌==◌, nat_lt, Some, None}
 use Rattle.std.proofs.Math.Bool.{or-true}
-use Rattle.std.proofs.lemmas.Bool.{cases_Bool, false≢true, and_parts, eqb-true, not-true}
+use Rattle.std.proofs.lemmas.Bool.{cases_Bool, false≢true, and_parts, eqb-true, not-true, and_left, and_right}
 use Rattle.std.proofs.lemmas.Bool.Decides.{nat_tests}
 use Rattle.unicode_ident.proofs.Computing.{unicode_ident}
 use Rattle.base_token.specs.declared.token.TokenKind.{TokenKind}
@@ -52,7 +52,7 @@ dot_no_opening : is_opening 46 ≡ false
 unfolding unicode_ident
 dot_no_opening = refl
 
-slash_no_opening : is_opening 47 ≡ false
+pub slash_no_opening : is_opening 47 ≡ false
 unfolding unicode_ident
 slash_no_opening = refl
 
@@ -133,13 +133,6 @@ pattern_sort goal c cs e =
 pub word_past_ascii : (goal : LexicalGoal) (c : ℕ) (cs : List ℕ) → is_name_start c ≡ true → sort_by goal c cs ≡ s.Word
 word_past_ascii goal c cs e = word_sort goal c cs (ap (λ b. b || (c == 92)) e)
 
-and_no : (a b : Bool) → a ≡ false → (a && b) ≡ false
-and_no a b e = rw e refl
-
-no_and : (a b : Bool) → b ≡ false → (a && b) ≡ false
-no_and true b e = e
-no_and false b e = refl
-
 pub nothing_past_ascii : (goal : LexicalGoal) (c : ℕ) (cs : List ℕ) → 128 ≤ c → is_name_start c ≡ false → sort_by goal c cs ≡ s.Punctuator
 nothing_past_ascii goal c cs h e =
     let n92 : (c == 92) ≡ false = grind (arith, nat_tests) in
@@ -151,7 +144,7 @@ nothing_past_ascii goal c cs h e =
     let o : is_opening c ≡ false = rw e n92 in
     let q : is_quote c ≡ false = rw n34 n39 in
     let m : begins_mark c ≡ true = rw o (rw d (rw q refl)) in
-    mark_sort goal c cs m (and_no (c == 46) (begins is_decimal cs) n46) (no_and (opens_regexp goal) (is_slash c) n47)
+    mark_sort goal c cs m (and_left (c == 46) (begins is_decimal cs) n46) (and_right (opens_regexp goal) (is_slash c) n47)
 
 -- ---- how the sorts begin
 

@@ -1,10 +1,10 @@
 -- What was read of each sort, as a token.
-use Rattle.std.proofs.Common.{◌≡◌, ◌≢◌, ℕ, Bool, true, false, ◌||◌, List, [], ◌∷◌, ◌++◌, length, refl, sym, ap, subst, ◌∙◌, IsUtf8, IsCharBoundary}
+use Rattle.std.proofs.Common.{◌≡◌, ◌≢◌, ℕ, Bool, true, false, List, [], ◌∷◌, ◌++◌, length, refl, sym, ap, subst, ◌∙◌, IsUtf8, IsCharBoundary}
 use Rattle.std.specs.Prelude.{◌==◌, Option, Some, None, Result, Ok, Err, MatchOption, MatchResult, IfSome, encode_utf8_all, string_bytes}
 use Rattle.std.specs.Str.{chars}
 use Rattle.std.proofs.Math.Bool.{or-true}
 use Rattle.std.proofs.Math.Utf8.{encodes, scalars}
-use Rattle.std.proofs.lemmas.Bool.{and_parts, false≢true}
+use Rattle.std.proofs.lemmas.Bool.{false≢true, or_parts}
 use Rattle.std.proofs.lemmas.Str.{encodes-chars, chars-encodes, encodes-append, IsCharBoundary-at_seam}
 use Rattle.base_token.specs.declared.context.Context.{Context}
 use Rattle.base_token.specs.Reserved.{is_reserved_in}
@@ -15,6 +15,7 @@ use Rattle.base_token.specs.declared.error.SyntaxError.{SyntaxError}
 use Rattle.base_token.specs.declared.token.Token.TheVariants.{Template}
 use Rattle.lex_pieces.proofs.NameLemmas.{backslash, part_of}
 use Rattle.lex_pieces.proofs.TriviaLemmas.{one_run}
+use Rattle.lex_pieces.proofs.Wide.{scalars_parts}
 use Rattle.lex_pieces.specs.declared.names.Name.{Name}
 use Rattle.lex_pieces.specs.declared.names.Name.TheVariants.{Bare, Escaped}
 use Rattle.lex_pieces.specs.Characters.{is_name_part}
@@ -35,9 +36,6 @@ pub encoded : (bytes : List ℕ) → IsUtf8 bytes → bytes ≡ encode_utf8_all 
 encoded bytes u = sym (encodes-chars bytes u)
 
 -- what a match tells of an answer that is known
-pub some_of : {A : Type 0} (N : Type 0) (P : A → Type 0) (o : Option A) (x : A) → o ≡ Some x → MatchOption o N P → P x
-some_of N P o x e h = subst (λ p. MatchOption p N P) e h
-
 pub none_of : {A : Type 0} (N : Type 0) (P : A → Type 0) (o : Option A) → o ≡ None → MatchOption o N P → N
 none_of N P o e h = subst (λ p. MatchOption p N P) e h
 
@@ -50,13 +48,9 @@ each_part : (first : Bool) (text cs rest : List ℕ) → Spell first text cs res
 each_part first text [] rest h = tt
 each_part first text (c ∷ cs) rest h = (part_of first c h.1.0, each_part false h.0 cs rest h.2)
 
-or_first : (a b : Bool) → (a || b) ≡ false → a ≡ false
-or_first true b e = absurd (false≢true (sym e))
-or_first false b e = refl
-
 ends_part : (rest : List ℕ) → Ends is_continuing rest → Ends is_name_part rest
 ends_part [] h = tt
-ends_part (c ∷ cs) h = or_first (is_name_part c) (c == 92) h
+ends_part (c ∷ cs) h = (or_parts (is_name_part c) (c == 92) h).0
 
 unmarked : (text front more name rest : List ℕ) → text ≡ front ++ 92 ∷ more → Each is_name_part front → Spell true text name rest → Ends is_continuing rest → text ≢ name ++ rest
 unmarked text front more name rest e p h ends f =
@@ -121,10 +115,6 @@ first_bad end text raw P Q (Err e) h = h.1
 
 -- ---- the text behind a front of it
 
-scalars_after : (front rest : List ℕ) → scalars (front ++ rest) ≡ true → scalars rest ≡ true
-scalars_after [] rest e = e
-scalars_after (c ∷ cs) rest e = scalars_after cs rest (and_parts _ (scalars (cs ++ rest)) e).1
-
 pub record Split (text own : List ℕ) : Type 0 where
   pub rest : List ℕ
   pub whole : text ≡ own ++ rest
@@ -138,7 +128,7 @@ split text own u v h =
     let rest = encodes cs in
     let whole : text ≡ own ++ rest = sym (encodes-chars text u) ∙ ap encodes h.1 ∙ encodes-append (chars own) cs ∙ ap (λ l. l ++ rest) (encodes-chars own v) in
     let all : chars text ≡ u.0 = ap chars (sym u.1.1) ∙ chars-encodes u.0 u.1.0 in
-    let fine : scalars cs ≡ true = scalars_after (chars own) cs (ap scalars (sym h.1 ∙ all) ∙ u.1.0) in
+    let fine : scalars cs ≡ true = (scalars_parts (chars own) cs (ap scalars (sym h.1 ∙ all) ∙ u.1.0)).1 in
     let is_text : IsUtf8 rest = (cs, (fine, refl)) in
     record {
       rest = rest;

@@ -1,5 +1,6 @@
 -- A walk that ends at the first property with an initialiser finds what is clean.
 use Rattle.std.proofs.Common.{◌≡◌, ℕ, Option, Bool, true, false, ◌&&◌, if◌then◌else◌, List, [], ◌∷◌, refl, sym, ap, ◌∙◌}
+use Rattle.std.proofs.Math.Bool.{and-false}
 use Rattle.base_token.specs.declared.place.Span.{Span}
 use Rattle.tree_spec.specs.Tree.{Tree, Trees, none, more, script, es_module, import_decl, export_decl, named_export, export_default_decl, export_default_expr, export_all, import_named_specifier, import_default_specifier, import_star_as_specifier, export_namespace_specifier, export_default_specifier, export_named_specifier, block_stmt, empty_stmt, debugger_stmt, with_stmt, return_stmt, labeled_stmt, break_stmt, continue_stmt, if_stmt, switch_stmt, switch_case, throw_stmt, try_stmt, catch_clause, while_stmt, do_while_stmt, for_stmt, for_in_stmt, for_of_stmt, expr_stmt, class_decl, fn_decl, var_decl, using_decl, var_declarator, function, param, decorator, class, constructor, class_method, private_method, class_prop, private_prop, static_block, auto_accessor, ident_name, computed_prop_name, private_name, this_expr, array_lit, object_lit, fn_expr, unary_expr, update_expr, bin_expr, assign_expr, member_expr, super_prop_expr, cond_expr, call_expr, new_expr, seq_expr, ident, tpl, tpl_element, tagged_tpl, arrow_expr, class_expr, yield_expr, meta_prop_expr, await_expr, paren_expr, opt_chain_expr, opt_call, super, import, invalid, expr_or_spread, spread_element, key_value_prop, assign_prop, getter_prop, setter_prop, method_prop, str_lit, bool_lit, null_lit, number_lit, big_int_lit, regex_lit, binding_ident, array_pat, rest_pat, object_pat, assign_pat, key_value_pat_prop, assign_pat_prop, expr_pat, invalid_pat, invalid_target, list, absent, hole}
 use Rattle.tree_spec.specs.Folds.{fold, folds}
@@ -13,10 +14,6 @@ use Rattle.parse_alone.specs.Covers.{after_event, covers}
 kept : (a : Bool) → a ≡ (a && true)
 kept true = refl
 kept false = refl
-
-none_left : (a : Bool) → (a && false) ≡ false
-none_left true = refl
-none_left false = refl
 
 grouped : (a b c : Bool) → ((a && b) && c) ≡ (a && (b && c))
 grouped true b c = refl
@@ -185,7 +182,7 @@ mutual
   walks (expr_or_spread _ _ expr) s = (field (walked expr ∷ []) (clean expr ∷ []) [] [] (one (walked expr) (clean expr) (walks expr)) nothing) s
   walks (spread_element _ expr) s = (field (walked expr ∷ []) (clean expr ∷ []) [] [] (one (walked expr) (clean expr) (walks expr)) nothing) s
   walks (key_value_prop _ key value) s = (field (walked key ∷ []) (clean key ∷ []) ((walked value ∷ []) ∷ []) ((clean value ∷ []) ∷ []) (one (walked key) (clean key) (walks key)) (field (walked value ∷ []) (clean value ∷ []) [] [] (one (walked value) (clean value) (walks value)) nothing)) s
-  walks (assign_prop _ key value) s = (field (walked key ∷ []) (clean key ∷ []) ((walked value ∷ []) ∷ []) ((clean value ∷ []) ∷ []) (one (walked key) (clean key) (walks key)) (field (walked value ∷ []) (clean value ∷ []) [] [] (one (walked value) (clean value) (walks value)) nothing)) false ∙ sym (none_left s)
+  walks (assign_prop _ key value) s = (field (walked key ∷ []) (clean key ∷ []) ((walked value ∷ []) ∷ []) ((clean value ∷ []) ∷ []) (one (walked key) (clean key) (walks key)) (field (walked value ∷ []) (clean value ∷ []) [] [] (one (walked value) (clean value) (walks value)) nothing)) false ∙ sym (and-false s)
   walks (getter_prop _ key body) s = (field (walked key ∷ []) (clean key ∷ []) ((walked body ∷ []) ∷ []) ((clean body ∷ []) ∷ []) (one (walked key) (clean key) (walks key)) (field (walked body ∷ []) (clean body ∷ []) [] [] (one (walked body) (clean body) (walks body)) nothing)) s
   walks (setter_prop _ key param_ body) s = (field (walked key ∷ []) (clean key ∷ []) ((walked param_ ∷ []) ∷ (walked body ∷ []) ∷ []) ((clean param_ ∷ []) ∷ (clean body ∷ []) ∷ []) (one (walked key) (clean key) (walks key)) (field (walked param_ ∷ []) (clean param_ ∷ []) ((walked body ∷ []) ∷ []) ((clean body ∷ []) ∷ []) (one (walked param_) (clean param_) (walks param_)) (field (walked body ∷ []) (clean body ∷ []) [] [] (one (walked body) (clean body) (walks body)) nothing))) s
   walks (method_prop _ key function_) s = (field (walked key ∷ []) (clean key ∷ []) ((walked function_ ∷ []) ∷ []) ((clean function_ ∷ []) ∷ []) (one (walked key) (clean key) (walks key)) (field (walked function_ ∷ []) (clean function_ ∷ []) [] [] (one (walked function_) (clean function_) (walks function_)) nothing)) s

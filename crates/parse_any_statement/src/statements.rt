@@ -85,7 +85,6 @@ fn told_expression<'a, I: Tokens<'a> + Drop, N: Nested<'a, I>>(
 
 /// What declares variables, or an expression.
 #[inline(never)]
-#[tactic(auto, using(parse_state::proofs::Marks::marks, crate::proofs::Starts::starts), unfolding(crate::specs::Parts::variable_stmt))]
 pub fn variables_or_expression<'a, I: Tokens<'a> + Drop, N: Nested<'a, I>>(
     p: &mut Parser<'a, I>,
     nested: &N,
@@ -122,7 +121,6 @@ pub fn variables_or_expression<'a, I: Tokens<'a> + Drop, N: Nested<'a, I>>(
 
 /// A function, a class, or what no word starts alone.
 #[inline(always)]
-#[tactic(auto, using(parse_state::proofs::Marks::marks, crate::proofs::Starts::starts), unfolding(crate::specs::Parts::declared_stmt, crate::specs::Parts::variable_stmt))]
 pub fn declared<'a, I: Tokens<'a> + Drop, N: Nested<'a, I>>(
     p: &mut Parser<'a, I>,
     nested: &N,
@@ -156,7 +154,6 @@ pub fn declared<'a, I: Tokens<'a> + Drop, N: Nested<'a, I>>(
 
 /// A statement that leaves a place, or one of the others.
 #[inline(never)]
-#[tactic(auto, unfolding(crate::specs::Parts::jump_stmt, crate::specs::Parts::declared_stmt))]
 pub fn jump<'a, I: Tokens<'a> + Drop, N: Nested<'a, I>>(
     p: &mut Parser<'a, I>,
     nested: &N,
@@ -180,7 +177,7 @@ pub fn jump<'a, I: Tokens<'a> + Drop, N: Nested<'a, I>>(
 
 /// A statement that a word starts, or an expression. Not inlined: its frame is wide, and blocks and functions in one another go past it.
 #[inline(never)]
-#[tactic(auto, unfolding(grammar_spec::specs::Reader::Statements::keyword_stmt, crate::specs::Parts::jump_stmt, crate::specs::Parts::declared_stmt, crate::specs::Parts::variable_stmt))]
+#[tactic(auto, unfolding(grammar_spec::specs::Reader::Statements::keyword_stmt))]
 pub fn keyword<'a, I: Tokens<'a> + Drop, N: Nested<'a, I>>(
     p: &mut Parser<'a, I>,
     nested: &N,
@@ -233,7 +230,7 @@ fn block_stmt<'a, I: Tokens<'a> + Drop, N: Nested<'a, I>>(
 
 /// A statement, from a token on that is no slash.
 #[inline(always)]
-#[tactic(auto, using(parse_state::proofs::Marks::marks, crate::proofs::Starts::starts), unfolding(grammar_spec::specs::Reader::Statements::stmt_by, grammar_spec::specs::Reader::Statements::keyword_stmt))]
+#[tactic(auto, unfolding(grammar_spec::specs::Reader::Statements::stmt_by, grammar_spec::specs::Reader::Statements::keyword_stmt))]
 pub fn any_stmt<'a, I: Tokens<'a> + Drop, N: Nested<'a, I>>(
     p: &mut Parser<'a, I>,
     nested: &N,

@@ -1,2 +1,3 @@
-pub mod Starts
+pub mod GroupLemmas
+pub mod AsyncLemmas
 pub mod Plain

@@ -3,7 +3,7 @@ use Rattle.std.specs.Prelude.{ℕ, false, if◌then◌else◌, List, [], ◌∷�
 use Rattle.tree_spec.specs.Tree.{Tree, paren_expr}
 use Rattle.tree_spec.specs.Places.{place_of}
 use Rattle.grammar_spec.specs.Tokens.Input.{Code, span}
-use Rattle.grammar_spec.specs.Reader.Source.{Fault, unfit, placed, unexpected, ◌>>=◌, Stream, State, Read, Inner, bound, spanned}
+use Rattle.grammar_spec.specs.Reader.Source.{Fault, unfit, placed, unexpected, ◌>>=◌, Stream, Read, Inner, bound, spanned}
 use Rattle.grammar_spec.specs.Reader.Expressions.{Elements, arrow_by, heads_params, joined, last_end, params_of, plain_element, plain_elements}
 
 -- an expression, or several with commas between them (13.2.9)
@@ -33,7 +33,7 @@ plain_from before [] = Ok before
 plain_from before (x ∷ xs) = found (plain_element x) >>= λ e. plain_from (before ++ e ∷ []) xs
 
 -- after the `)` of a group that began here, behind whose `(` the first token begins at `lo`
-unfoldable pub group_rest : {S : Type 0} → Stream S → Inner S → Code → ℕ → State S → ℕ → Elements → Read S Tree
+unfoldable pub group_rest : {S : Type 0} → Stream S → Inner S → Code → ℕ → ℕ → ℕ → Elements → Read S Tree
 group_rest m inner c l start lo xs s =
     if heads_params m inner l xs s then (placed (bound m s) (params_of m inner s.commas xs) >>= λ ps. arrow_by m inner c start false ps s)
     else (if xs.comma then unexpected m s else (placed (bound m s) (group_tree lo xs.items) >>= λ t. Ok (paren_expr (spanned m start s) t, s)))

@@ -4,7 +4,7 @@ ghost use Rattle.tree_nodes.specs.Placed.{holds_pat, inner};
 ghost use Rattle.grammar_spec.specs.Reader.Expressions as reads;
 ghost use Rattle.parse_state.specs.Codes.{code_of};
 ghost use Rattle.parse_state.specs.Cursors.{stream_of};
-ghost use Rattle.parse_state.specs.States.{from, from_span, state_of};
+ghost use Rattle.parse_state.specs.States.{state_of};
 ghost use Rattle.parse_state.specs.Reads.{Shorter, NotLonger};
 ghost use Rattle.parse_operands.specs.Operands.{tree_of};
 ghost use Rattle.parse_operands.specs.Rules.{ReadsBy};
@@ -31,7 +31,7 @@ pub fn is_arrow<'a, I: Tokens<'a> + Drop, N: Nested<'a, I>>(
 
 /// An arrow and its body.
 #[inline(never)]
-#[tactic(auto, using(parse_state::proofs::Marks::marks, parse_operands::proofs::Packs::packs), unfolding(grammar_spec::specs::Reader::Expressions::arrow_by))]
+#[tactic(auto, using(parse_operands::proofs::Packs::packs), unfolding(grammar_spec::specs::Reader::Expressions::arrow_by))]
 pub fn arrow<'a, I: Tokens<'a> + Drop, N: Nested<'a, I>>(
     p: &mut Parser<'a, I>,
     nested: &N,
@@ -44,7 +44,7 @@ pub fn arrow<'a, I: Tokens<'a> + Drop, N: Nested<'a, I>>(
     requires fits { All (λ y. holds_pat y.part.value) params.items }
     ensures value { ReadsBy I.machine I.state (N.reads nested.now) p.old p.new result
         tree_of
-        (λ m r. reads.arrow_by m r (code_of code) (from start.0) is_async
+        (λ m r. reads.arrow_by m r (code_of code) start.0 is_async
         (map (λ y. inner y.part.value) params.items)) }
     ensures shorter { Shorter I.machine I.state p.old p.new result }
 {
@@ -60,7 +60,7 @@ pub fn arrow<'a, I: Tokens<'a> + Drop, N: Nested<'a, I>>(
 
 /// What follows a name, which may be the one parameter of an arrow.
 #[inline(always)]
-#[tactic(auto, using(parse_state::proofs::Marks::marks, crate::proofs::Starts::starts), unfolding(grammar_spec::specs::Reader::Expressions::ident_end))]
+#[tactic(auto, unfolding(grammar_spec::specs::Reader::Expressions::ident_end))]
 pub fn ident_end<'a, I: Tokens<'a> + Drop, N: Nested<'a, I>>(
     p: &mut Parser<'a, I>,
     nested: &N,
@@ -71,7 +71,7 @@ pub fn ident_end<'a, I: Tokens<'a> + Drop, N: Nested<'a, I>>(
 ) -> Result<Operand, Failure>
     requires ready { N.ready nested.now }
     ensures value { ReadsBy I.machine I.state (N.reads nested.now) p.old p.new result
-        tree_of (λ m r. reads.ident_end m r (code_of code) level (from_span place) sym) }
+        tree_of (λ m r. reads.ident_end m r (code_of code) level place sym) }
     ensures not_longer { NotLonger I.machine I.state p.old p.new result }
 {
     if is_arrow(p, nested, level) {

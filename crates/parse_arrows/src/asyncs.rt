@@ -5,7 +5,7 @@ ghost use Rattle.grammar_spec.specs.Reader.Source as spec;
 ghost use Rattle.grammar_spec.specs.Reader.Expressions as reads;
 ghost use Rattle.parse_state.specs.Codes.{code_of};
 ghost use Rattle.parse_state.specs.Cursors.{stream_of};
-ghost use Rattle.parse_state.specs.States.{from_span, state_of};
+ghost use Rattle.parse_state.specs.States.{state_of};
 ghost use Rattle.parse_operands.specs.Operands.{tree_of};
 ghost use Rattle.std.specs.Prelude.{not, ◌&&◌, ◌==◌, nat_le, IfErr};
 ghost use Rattle.grammar_spec.specs.Tokens.Input.{brk2};
@@ -14,7 +14,7 @@ ghost use Rattle.base_token.specs.Kinds.{arrow_kind, async_kind};
 ghost use Rattle.parse_state.specs.Answers.{IsMemory};
 ghost use Rattle.parse_state.specs.Reads.{at_hand, Shorter, NotLonger};
 ghost use Rattle.parse_operands.specs.Rules.{ReadsBy};
-ghost use Rattle.parse_arrows.specs.Asyncs.{async_arrow, async_call, async_end};
+ghost use Rattle.parse_arrows.specs.Asyncs.{async_arrow, async_end};
 
 use crate::arrows::{arrow, ident_end, is_arrow};
 use crate::function_expressions::function_operand;
@@ -28,7 +28,7 @@ use parse_state::{Around, Failure, Parser, Tokens, kinds};
 
 /// `async` and a parenthesis: a call, or the parameters of an arrow.
 #[inline(always)]
-#[tactic(auto, using(parse_state::proofs::Marks::marks, parse_operands::proofs::Packs::packs, crate::proofs::Starts::starts), unfolding(crate::specs::Asyncs::async_call))]
+#[tactic(auto, using(parse_operands::proofs::Packs::packs), unfolding(grammar_spec::specs::Reader::Expressions::async_group))]
 pub fn call_or_arrow<'a, I: Tokens<'a> + Drop, N: Nested<'a, I>>(
     p: &mut Parser<'a, I>,
     nested: &N,
@@ -39,7 +39,7 @@ pub fn call_or_arrow<'a, I: Tokens<'a> + Drop, N: Nested<'a, I>>(
 ) -> Result<Operand, Failure>
     requires ready { N.ready nested.now }
     ensures value { ReadsBy I.machine I.state (N.reads nested.now) p.old p.new result
-        tree_of (λ m r. async_call m r (code_of code) level (from_span place) sym) }
+        tree_of (λ m r. reads.async_group m r (code_of code) level place sym) }
     ensures shorter { Shorter I.machine I.state p.old p.new result }
 {
     let breaks = p.breaks();
@@ -77,7 +77,7 @@ fn is_param<'a, I: Tokens<'a> + Drop>(
 
 /// The parameter and the rest of an arrow behind `async`.
 #[inline(always)]
-#[tactic(auto, using(parse_state::proofs::Marks::marks, crate::proofs::Starts::starts), unfolding(crate::specs::Asyncs::async_arrow))]
+#[tactic(auto, unfolding(crate::specs::Asyncs::async_arrow))]
 pub fn async_arrow<'a, I: Tokens<'a> + Drop, N: Nested<'a, I>>(
     p: &mut Parser<'a, I>,
     nested: &N,
@@ -86,7 +86,7 @@ pub fn async_arrow<'a, I: Tokens<'a> + Drop, N: Nested<'a, I>>(
 ) -> Result<Operand, Failure>
     requires ready { N.ready nested.now }
     ensures value { ReadsBy I.machine I.state (N.reads nested.now) p.old p.new result
-        tree_of (λ m r. async_arrow m r (code_of code) (from_span place)) }
+        tree_of (λ m r. async_arrow m r (code_of code) place.lo.0) }
     ensures shorter { Shorter I.machine I.state p.old p.new result }
 {
     let span = p.place();
@@ -97,7 +97,7 @@ pub fn async_arrow<'a, I: Tokens<'a> + Drop, N: Nested<'a, I>>(
 
 /// What follows `async`.
 #[inline(always)]
-#[tactic(auto, using(parse_state::proofs::Marks::marks, crate::proofs::Starts::starts), unfolding(crate::specs::Asyncs::async_end, crate::specs::Asyncs::async_arrow))]
+#[tactic(auto, unfolding(crate::specs::Asyncs::async_end, crate::specs::Asyncs::async_arrow))]
 pub fn async_end<'a, I: Tokens<'a> + Drop, N: Nested<'a, I>>(
     p: &mut Parser<'a, I>,
     nested: &N,
@@ -108,7 +108,7 @@ pub fn async_end<'a, I: Tokens<'a> + Drop, N: Nested<'a, I>>(
 ) -> Result<Operand, Failure>
     requires ready { N.ready nested.now }
     ensures value { ReadsBy I.machine I.state (N.reads nested.now) p.old p.new result
-        tree_of (λ m r. async_end m r (code_of code) level (from_span place) sym) }
+        tree_of (λ m r. async_end m r (code_of code) level place sym) }
     ensures not_longer { NotLonger I.machine I.state p.old p.new result }
 {
     if p.at(kinds::FUNCTION) && !p.breaks() && !p.is_barred(code.context) {
@@ -125,7 +125,6 @@ pub fn async_end<'a, I: Tokens<'a> + Drop, N: Nested<'a, I>>(
 
 /// The word `async`, and what follows it.
 #[inline(never)]
-#[tactic(auto, using(parse_state::proofs::Marks::marks, crate::proofs::Starts::async_is))]
 pub fn async_expr<'a, I: Tokens<'a> + Drop, N: Nested<'a, I>>(
     p: &mut Parser<'a, I>,
     nested: &N,

@@ -5,7 +5,6 @@ ghost use Rattle.tree_nodes.specs.Placed.{inner};
 ghost use Rattle.tree_nodes.specs.View.{view_fn_expr};
 ghost use Rattle.grammar_spec.specs.Reader.Expressions as reads;
 ghost use Rattle.parse_state.specs.Codes.{code_of};
-ghost use Rattle.parse_state.specs.States.{from};
 ghost use Rattle.parse_state.specs.Reads.{Shorter};
 ghost use Rattle.parse_operands.specs.Operands.{tree_of};
 ghost use Rattle.parse_operands.specs.Rules.{ReadsBy};
@@ -21,7 +20,7 @@ use tree_nodes::{FnExpr, Ident};
 
 /// What follows `function` and its star: a name or none, parameters and a body.
 #[inline(always)]
-#[tactic(auto, using(parse_state::proofs::Marks::marks), unfolding(grammar_spec::specs::Reader::Expressions::function_expr_name))]
+#[tactic(auto, unfolding(grammar_spec::specs::Reader::Expressions::function_expr_name))]
 pub fn function_expr_name<'a, I: Tokens<'a> + Drop, N: Nested<'a, I>>(
     p: &mut Parser<'a, I>,
     nested: &N,
@@ -33,7 +32,7 @@ pub fn function_expr_name<'a, I: Tokens<'a> + Drop, N: Nested<'a, I>>(
     requires ready { N.ready nested.now }
     ensures value { ReadsBy I.machine I.state (N.reads nested.now) p.old p.new result
         (view_fn_expr inner)
-        (λ m r. reads.function_expr_name m r (code_of code) (from start.0) generator is_async) }
+        (λ m r. reads.function_expr_name m r (code_of code) start.0 generator is_async) }
     ensures fits { IfOk result (λ x. fits_fn_expr (λ p. p) x) }
     ensures shorter { Shorter I.machine I.state p.old p.new result }
 {
@@ -65,7 +64,7 @@ pub fn function_expr<'a, I: Tokens<'a> + Drop, N: Nested<'a, I>>(
     requires ready { N.ready nested.now }
     ensures value { ReadsBy I.machine I.state (N.reads nested.now) p.old p.new result
         (view_fn_expr inner)
-        (λ m r. reads.function_expr_by m r (code_of code) (from start.0) is_async) }
+        (λ m r. reads.function_expr_by m r (code_of code) start.0 is_async) }
     ensures fits { IfOk result (λ x. fits_fn_expr (λ p. p) x) }
     ensures shorter { Shorter I.machine I.state p.old p.new result }
 {
@@ -85,7 +84,7 @@ pub fn function_operand<'a, I: Tokens<'a> + Drop, N: Nested<'a, I>>(
 ) -> Result<Operand, Failure>
     requires ready { N.ready nested.now }
     ensures value { ReadsBy I.machine I.state (N.reads nested.now) p.old p.new result
-        tree_of (λ m r. reads.function_expr_by m r (code_of code) (from start.0) is_async) }
+        tree_of (λ m r. reads.function_expr_by m r (code_of code) start.0 is_async) }
     ensures shorter { Shorter I.machine I.state p.old p.new result }
 {
     let node = function_expr(p, nested, code, start, is_async)?;

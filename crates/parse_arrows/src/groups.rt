@@ -5,7 +5,6 @@ ghost use Rattle.tree_nodes.specs.Placed.{holds_expr, inner};
 ghost use Rattle.grammar_spec.specs.Reader.Expressions as reads;
 ghost use Rattle.parse_state.specs.Answers.{Gives};
 ghost use Rattle.parse_state.specs.Codes.{code_of};
-ghost use Rattle.parse_state.specs.States.{from};
 ghost use Rattle.parse_operands.specs.Lists.{arguments_of, FitArguments};
 ghost use Rattle.parse_operands.specs.Operands.{tree_of};
 ghost use Rattle.std.specs.Prelude.{[], ◌∷◌, ◌++◌, IfErr};
@@ -99,7 +98,7 @@ fn group_expr(alloc: Global, paren: Span, items: Vec<ExprOrSpread>) -> Result<Ex
 
 /// What follows the `)` of a group: an arrow, or nothing of the group.
 #[inline(never)]
-#[tactic(auto, using(parse_state::proofs::Marks::marks), unfolding(crate::specs::Groups::group_rest))]
+#[tactic(auto, unfolding(crate::specs::Groups::group_rest))]
 pub fn group_end<'a, I: Tokens<'a> + Drop, N: Nested<'a, I>>(
     p: &mut Parser<'a, I>,
     nested: &N,
@@ -113,7 +112,7 @@ pub fn group_end<'a, I: Tokens<'a> + Drop, N: Nested<'a, I>>(
     requires fits { FitArguments list }
     ensures value { ReadsBy I.machine I.state (N.reads nested.now) p.old p.new result
         tree_of
-        (λ m r. group_rest m r (code_of code) level (from start.0) paren.lo.0 (arguments_of list)) }
+        (λ m r. group_rest m r (code_of code) level start.0 paren.lo.0 (arguments_of list)) }
     ensures not_longer { NotLonger I.machine I.state p.old p.new result }
 {
     if is_arrow(p, nested, level) && nested.are_params(p, &list) {
@@ -129,7 +128,7 @@ pub fn group_end<'a, I: Tokens<'a> + Drop, N: Nested<'a, I>>(
 
 /// Parentheses and what follows them.
 #[inline(never)]
-#[tactic(auto, using(parse_state::proofs::Marks::marks, crate::proofs::Starts::group_from), unfolding(grammar_spec::specs::Reader::Expressions::group_by))]
+#[tactic(auto, using(crate::proofs::GroupLemmas::group_is), unfolding(grammar_spec::specs::Reader::Expressions::group_by))]
 pub fn group<'a, I: Tokens<'a> + Drop, N: Nested<'a, I>>(
     p: &mut Parser<'a, I>,
     nested: &N,

@@ -6,7 +6,6 @@ ghost use Rattle.tree_nodes.specs.View.{view_block_stmt};
 ghost use Rattle.grammar_spec.specs.Reader.Statements as reads;
 ghost use Rattle.parse_state.specs.Answers.{going_on};
 ghost use Rattle.parse_state.specs.Codes.{code_of};
-ghost use Rattle.parse_state.specs.States.{from};
 ghost use Rattle.parse_state.specs.Reads.{Shorter};
 ghost use Rattle.parse_operands.specs.Rules.{ReadsBy};
 ghost use Rattle.parse_blocks.specs.Lists.{block_items};
@@ -63,7 +62,7 @@ pub fn block_items<'a, I: Tokens<'a> + Drop, N: Nested<'a, I>>(
 
 /// A block, after its first brace.
 #[inline(never)]
-#[tactic(auto, using(parse_state::proofs::Marks::marks, parse_operands::proofs::Packs::packs), unfolding(grammar_spec::specs::Reader::Statements::block_rest, crate::specs::Lists::block_items))]
+#[tactic(auto, using(parse_operands::proofs::Packs::packs), unfolding(grammar_spec::specs::Reader::Statements::block_rest, crate::specs::Lists::block_items))]
 pub fn block_rest<'a, I: Tokens<'a> + Drop, N: Nested<'a, I>>(
     p: &mut Parser<'a, I>,
     nested: &N,
@@ -72,7 +71,7 @@ pub fn block_rest<'a, I: Tokens<'a> + Drop, N: Nested<'a, I>>(
 ) -> Result<BlockStmt, Failure>
     requires ready { N.ready nested.now }
     ensures value { ReadsBy I.machine I.state (N.reads nested.now) p.old p.new result
-        (view_block_stmt inner) (λ m r. reads.block_rest m r (code_of code) (from start.0)) }
+        (view_block_stmt inner) (λ m r. reads.block_rest m r (code_of code) start.0) }
     ensures fits { IfOk result (λ x. fits_block_stmt (λ p. p) x) }
     ensures shorter { Shorter I.machine I.state p.old p.new result }
 {
@@ -85,7 +84,7 @@ pub fn block_rest<'a, I: Tokens<'a> + Drop, N: Nested<'a, I>>(
 
 /// A block.
 #[inline(never)]
-#[tactic(auto, using(parse_state::proofs::Marks::marks, parse_operands::proofs::Packs::packs), unfolding(grammar_spec::specs::Reader::Statements::block_by, grammar_spec::specs::Reader::Statements::block_rest, crate::specs::Lists::block_items))]
+#[tactic(auto, using(parse_operands::proofs::Packs::packs), unfolding(grammar_spec::specs::Reader::Statements::block_by, grammar_spec::specs::Reader::Statements::block_rest, crate::specs::Lists::block_items))]
 pub fn block<'a, I: Tokens<'a> + Drop, N: Nested<'a, I>>(
     p: &mut Parser<'a, I>,
     nested: &N,

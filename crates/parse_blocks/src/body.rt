@@ -126,7 +126,7 @@ pub fn body_items<'a, I: Tokens<'a> + Drop, N: Nested<'a, I>>(
 
 /// A body. Behind it the source is told of the code around it again.
 #[inline(never)]
-#[tactic(auto, using(parse_state::proofs::Marks::marks, parse_operands::proofs::Packs::packs), unfolding(grammar_spec::specs::Reader::Statements::body_by, crate::specs::Lists::body_items))]
+#[tactic(auto, using(parse_operands::proofs::Packs::packs), unfolding(grammar_spec::specs::Reader::Statements::body_by, crate::specs::Lists::body_items))]
 pub fn body<'a, I: Tokens<'a> + Drop, N: Nested<'a, I>>(
     p: &mut Parser<'a, I>,
     nested: &N,

@@ -8,7 +8,6 @@ ghost use Rattle.tree_nodes.specs.View.{var_decl_kind_word, view_var_declarator}
 ghost use Rattle.grammar_spec.specs.Reader.Statements as reads;
 ghost use Rattle.parse_state.specs.Answers.{going_on};
 ghost use Rattle.parse_state.specs.Codes.{code_of};
-ghost use Rattle.parse_state.specs.States.{from};
 ghost use Rattle.parse_state.specs.Reads.{at_hand, Shorter};
 ghost use Rattle.parse_operands.specs.Operands.{tree_of, tree_in};
 ghost use Rattle.parse_operands.specs.Rules.{ReadsBy};
@@ -41,7 +40,7 @@ fn is_absent(operand: &Operand) -> bool
 
 /// A name or a pattern, and its initialiser where one follows; beside the class of its end.
 #[inline(never)]
-#[tactic(auto, using(parse_state::proofs::Marks::marks), unfolding(grammar_spec::specs::Reader::Statements::declarator_by))]
+#[tactic(auto, unfolding(grammar_spec::specs::Reader::Statements::declarator_by))]
 pub fn declarator<'a, I: Tokens<'a> + Drop, N: Nested<'a, I>>(
     p: &mut Parser<'a, I>,
     nested: &N,
@@ -133,7 +132,7 @@ pub fn declarators<'a, I: Tokens<'a> + Drop, N: Nested<'a, I>>(
 
 /// `var`, `let` or `const`, with what it declares.
 #[inline(never)]
-#[tactic(auto, using(parse_state::proofs::Marks::marks, parse_operands::proofs::Packs::packs), unfolding(grammar_spec::specs::Reader::Statements::variables_by))]
+#[tactic(auto, using(parse_operands::proofs::Packs::packs), unfolding(grammar_spec::specs::Reader::Statements::variables_by))]
 pub fn variables<'a, I: Tokens<'a> + Drop, N: Nested<'a, I>>(
     p: &mut Parser<'a, I>,
     nested: &N,
@@ -157,7 +156,7 @@ pub fn variables<'a, I: Tokens<'a> + Drop, N: Nested<'a, I>>(
 
 /// `using`, with what it declares. Before it `await` may stand.
 #[inline(never)]
-#[tactic(auto, using(parse_state::proofs::Marks::marks, parse_operands::proofs::Packs::packs), unfolding(grammar_spec::specs::Reader::Statements::using_by))]
+#[tactic(auto, using(parse_operands::proofs::Packs::packs), unfolding(grammar_spec::specs::Reader::Statements::using_by))]
 pub fn using<'a, I: Tokens<'a> + Drop, N: Nested<'a, I>>(
     p: &mut Parser<'a, I>,
     nested: &N,
@@ -167,7 +166,7 @@ pub fn using<'a, I: Tokens<'a> + Drop, N: Nested<'a, I>>(
 ) -> Result<StmtBox, Failure>
     requires ready { N.ready nested.now }
     ensures value { ReadsBy I.machine I.state (N.reads nested.now) p.old p.new result
-        tree_in (λ m r. reads.using_by m r (code_of code) (from start.0) awaits) }
+        tree_in (λ m r. reads.using_by m r (code_of code) start.0 awaits) }
     ensures holds { IfOk result (λ x. holds_stmt x.part.value) }
     ensures shorter { Shorter I.machine I.state p.old p.new result }
 {

@@ -2,8 +2,10 @@
 ghost use Rattle.std.specs.Prelude.{◌≡◌, All, IfErr, IfOk};
 ghost use Rattle.tree_nodes.specs.Fits.{fits_block_stmt, fits_catch_clause, fits_held, fits_stmt_kind, fits_switch_case, fits_var_declarator};
 ghost use Rattle.tree_nodes.specs.Placed.{holds_stmt, inner};
-ghost use Rattle.tree_nodes.specs.View.{var_decl_kind_word, view_block_stmt, view_catch_clause, view_ident, view_stmt_kind, view_switch_case, view_var_declarator};
-ghost use Rattle.tree_nodes.specs.Tree.{break_stmt, continue_stmt, debugger_stmt, expr_stmt, if_stmt, labeled_stmt, part_by, return_stmt, switch_stmt, throw_stmt, trees_by, try_stmt, using_decl, var_decl, with_stmt};
+ghost use Rattle.tree_nodes.specs.View.{var_decl_kind_word, view_block_stmt, view_catch_clause, view_ident};
+ghost use Rattle.tree_nodes.specs.View.{view_stmt_kind, view_switch_case, view_var_declarator};
+ghost use Rattle.tree_nodes.specs.Tree.{break_stmt, continue_stmt, debugger_stmt, expr_stmt, if_stmt, labeled_stmt, part_by, return_stmt};
+ghost use Rattle.tree_nodes.specs.Tree.{switch_stmt, throw_stmt, trees_by, try_stmt, using_decl, var_decl, with_stmt};
 ghost use Rattle.parse_state.specs.Answers.{IsMemory};
 ghost use Rattle.parse_operands.specs.Operands.{tree_of};
 

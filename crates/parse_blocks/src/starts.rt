@@ -19,7 +19,7 @@ use parse_state::{Around, Failure, Look, Parser, Tokens, kinds};
 /// # Errors
 ///
 /// Want of memory.
-#[tactic(auto, unfolding(parse_state::specs::Cursors::stream_of))]
+#[tactic(auto, using(parse_state::proofs::Taking::behinds), unfolding(parse_state::specs::Cursors::stream_of))]
 pub fn behind<'a, I: Tokens<'a> + Drop>(p: &Parser<'a, I>) -> Result<(u8, bool), Failure>
     ensures kind { IfOk result (λ x. x.0 ≡ kind
         (spec.input (stream_of I.machine)
@@ -27,7 +27,7 @@ pub fn behind<'a, I: Tokens<'a> + Drop>(p: &Parser<'a, I>) -> Result<(u8, bool),
     ensures breaks { IfOk result (λ x. x.1 ≡ brk2 (at_hand I.machine I.state p.now)) }
     ensures full { IfErr result IsMemory }
 {
-    if p.ahead.token.is_none() {
+    if p.ahead.is_none() {
         return Ok((kinds::END, false));
     }
     match p.input.look(Look::Next) {

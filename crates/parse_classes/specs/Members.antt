@@ -28,7 +28,7 @@ field_of s k v is_static = if is_private k then private_prop s k v is_static non
 
 module _ {S : Type 0} (m : Stream S) (inner : Inner S) where
   -- a field, after its key, which ends so where it has no value (15.7)
-  unfoldable pub field_by : Code → State S → Bool → ℕ → Tree → Read S Tree
+  unfoldable pub field_by : Code → ℕ → Bool → ℕ → Tree → Read S Tree
   field_by c start is_static e k s = field_value m inner c e s >>= λ v.
       if is_private k then Ok (private_prop (spanned m start v.1) k v.0 is_static none, v.1) else Ok (class_prop (spanned m start v.1) k v.0 is_static none, v.1)
 
@@ -37,7 +37,7 @@ module _ {S : Type 0} (m : Stream S) (inner : Inner S) where
   starts_accessor c s = c.syntax.auto_accessors && (at m accessor_kind s && (starts_key (kind2 (input m s)) && not (brk2 (input m s))))
 
   -- a member that is no generator, no `async` method, no getter and no setter
-  unfoldable pub last_member : Code → State S → Bool → Read S Tree
+  abbrev pub last_member : Code → ℕ → Bool → Read S Tree
   last_member c start is_static s = if starts_accessor c s then accessor_by m inner c start is_static s else field_or_method m inner c start is_static s
 
   -- a word before a key
@@ -45,7 +45,7 @@ module _ {S : Type 0} (m : Stream S) (inner : Inner S) where
   before_key k s = at m k s && starts_key (kind2 (input m s))
 
   -- a member that is no generator and no `async` method
-  unfoldable pub word_member : Code → State S → Bool → Read S Tree
+  abbrev pub word_member : Code → ℕ → Bool → Read S Tree
   word_member c start is_static s =
       if before_key get_kind s then class_getter m inner c start is_static s
       else (if before_key set_kind s then class_setter m inner c start is_static s

@@ -27,7 +27,7 @@ use tree_nodes::{Class, ClassExpr, ClassMember, ExprBox, Ident, StmtBox};
 
 /// A static member, or a static block.
 #[inline(never)]
-#[tactic(auto, using(parse_state::proofs::Marks::marks, crate::proofs::Starts::starts), unfolding(grammar_spec::specs::Reader::Statements::static_by))]
+#[tactic(auto, unfolding(grammar_spec::specs::Reader::Statements::static_by))]
 pub fn static_member<'a, I: Tokens<'a> + Drop, N: Nested<'a, I>>(
     p: &mut Parser<'a, I>,
     nested: &N,
@@ -66,7 +66,7 @@ fn add(list: &mut Vec<ClassMember>, member: ClassMember) -> Result<(), Failure>
 
 /// One more member of a class, or its brace. Whether another may follow.
 #[inline(always)]
-#[tactic(auto, using(crate::proofs::Starts::starts), unfolding(grammar_spec::specs::Reader::Statements::member_step))]
+#[tactic(auto, unfolding(grammar_spec::specs::Reader::Statements::member_step))]
 pub fn member_turn<'a, I: Tokens<'a> + Drop, N: Nested<'a, I>>(
     p: &mut Parser<'a, I>,
     nested: &N,
@@ -120,7 +120,7 @@ pub fn member_list<'a, I: Tokens<'a> + Drop, N: Nested<'a, I>>(
 
 /// A class, from the brace of its members on. Its span starts at `whole`.
 #[inline(always)]
-#[tactic(auto, using(parse_state::proofs::Marks::marks, parse_operands::proofs::Packs::packs), unfolding(grammar_spec::specs::Reader::Statements::members_by, crate::specs::Members::member_list))]
+#[tactic(auto, using(parse_operands::proofs::Packs::packs), unfolding(grammar_spec::specs::Reader::Statements::members_by, crate::specs::Members::member_list))]
 pub fn members<'a, I: Tokens<'a> + Drop, N: Nested<'a, I>>(
     p: &mut Parser<'a, I>,
     nested: &N,
@@ -143,7 +143,7 @@ pub fn members<'a, I: Tokens<'a> + Drop, N: Nested<'a, I>>(
 
 /// What follows a class's name. The span of the class starts at `whole`.
 #[inline(never)]
-#[tactic(auto, using(parse_state::proofs::Marks::marks), unfolding(grammar_spec::specs::Reader::Statements::class_tail_by))]
+#[tactic(auto, unfolding(grammar_spec::specs::Reader::Statements::class_tail_by))]
 pub fn class_tail<'a, I: Tokens<'a> + Drop, N: Nested<'a, I>>(
     p: &mut Parser<'a, I>,
     nested: &N,
@@ -166,7 +166,7 @@ pub fn class_tail<'a, I: Tokens<'a> + Drop, N: Nested<'a, I>>(
 
 /// A class as a declaration. All of it is strict code.
 #[inline(never)]
-#[tactic(auto, using(parse_state::proofs::Marks::marks), unfolding(grammar_spec::specs::Reader::Statements::class_decl_by))]
+#[tactic(auto, unfolding(grammar_spec::specs::Reader::Statements::class_decl_by))]
 pub fn class_decl<'a, I: Tokens<'a> + Drop, N: Nested<'a, I>>(
     p: &mut Parser<'a, I>,
     nested: &N,
@@ -188,7 +188,7 @@ pub fn class_decl<'a, I: Tokens<'a> + Drop, N: Nested<'a, I>>(
 
 /// A class as an expression. All of it is strict code.
 #[inline(always)]
-#[tactic(auto, using(parse_state::proofs::Marks::marks), unfolding(grammar_spec::specs::Reader::Expressions::class_expr_by))]
+#[tactic(auto, unfolding(grammar_spec::specs::Reader::Expressions::class_expr_by))]
 pub fn class_expr<'a, I: Tokens<'a> + Drop, N: Nested<'a, I>>(
     p: &mut Parser<'a, I>,
     nested: &N,

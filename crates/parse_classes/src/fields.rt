@@ -6,7 +6,6 @@ ghost use Rattle.tree_nodes.specs.Placed.{holds_expr, inner};
 ghost use Rattle.tree_nodes.specs.View.{view_class_member, view_key};
 ghost use Rattle.grammar_spec.specs.Reader.Statements as reads;
 ghost use Rattle.parse_state.specs.Codes.{code_of};
-ghost use Rattle.parse_state.specs.States.{from};
 ghost use Rattle.parse_state.specs.Reads.{Shorter, NotLonger};
 ghost use Rattle.parse_operands.specs.Rules.{ReadsBy};
 ghost use Rattle.parse_classes.specs.Members.{field_by};
@@ -22,7 +21,7 @@ use tree_nodes::{ClassMember, ExprBox, Key};
 
 /// What follows a field's key: `=` and a value, or nothing, and the end.
 #[inline(never)]
-#[tactic(auto, using(parse_state::proofs::Marks::marks), unfolding(grammar_spec::specs::Reader::Statements::field_value))]
+#[tactic(auto, unfolding(grammar_spec::specs::Reader::Statements::field_value))]
 pub fn field_value<'a, I: Tokens<'a> + Drop, N: Nested<'a, I>>(
     p: &mut Parser<'a, I>,
     nested: &N,
@@ -46,7 +45,7 @@ pub fn field_value<'a, I: Tokens<'a> + Drop, N: Nested<'a, I>>(
 
 /// The key of a member: a private name, or that of a property.
 #[inline(never)]
-#[tactic(auto, using(parse_state::proofs::Marks::marks), unfolding(grammar_spec::specs::Reader::Statements::class_key))]
+#[tactic(auto, unfolding(grammar_spec::specs::Reader::Statements::class_key))]
 pub fn class_key<'a, I: Tokens<'a> + Drop, N: Nested<'a, I>>(
     p: &mut Parser<'a, I>,
     nested: &N,
@@ -66,7 +65,7 @@ pub fn class_key<'a, I: Tokens<'a> + Drop, N: Nested<'a, I>>(
 
 /// A field, after its key. Where it has no value, it ends so.
 #[inline(always)]
-#[tactic(auto, using(parse_state::proofs::Marks::marks, crate::proofs::Keys::pairs), unfolding(crate::specs::Members::field_by))]
+#[tactic(auto, using(crate::proofs::Keys::pairs), unfolding(crate::specs::Members::field_by))]
 pub fn field<'a, I: Tokens<'a> + Drop, N: Nested<'a, I>>(
     p: &mut Parser<'a, I>,
     nested: &N,
@@ -80,7 +79,7 @@ pub fn field<'a, I: Tokens<'a> + Drop, N: Nested<'a, I>>(
     requires key { fits_key (λ p. p) key }
     ensures value { ReadsBy I.machine I.state (N.reads nested.now) p.old p.new result
         (view_class_member inner)
-        (λ m r. field_by m r (code_of code) (from start.0) is_static end (view_key inner key)) }
+        (λ m r. field_by m r (code_of code) start.0 is_static end (view_key inner key)) }
     ensures fits { IfOk result (λ x. fits_class_member (λ p. p) x) }
     ensures not_longer { NotLonger I.machine I.state p.old p.new result }
 {
@@ -90,7 +89,7 @@ pub fn field<'a, I: Tokens<'a> + Drop, N: Nested<'a, I>>(
 
 /// A field with `accessor` before its key.
 #[inline(never)]
-#[tactic(auto, using(parse_state::proofs::Marks::marks), unfolding(grammar_spec::specs::Reader::Statements::accessor_by))]
+#[tactic(auto, unfolding(grammar_spec::specs::Reader::Statements::accessor_by))]
 pub fn auto_accessor<'a, I: Tokens<'a> + Drop, N: Nested<'a, I>>(
     p: &mut Parser<'a, I>,
     nested: &N,
@@ -101,7 +100,7 @@ pub fn auto_accessor<'a, I: Tokens<'a> + Drop, N: Nested<'a, I>>(
     requires ready { N.ready nested.now }
     ensures value { ReadsBy I.machine I.state (N.reads nested.now) p.old p.new result
         (view_class_member inner)
-        (λ m r. reads.accessor_by m r (code_of code) (from start.0) is_static) }
+        (λ m r. reads.accessor_by m r (code_of code) start.0 is_static) }
     ensures fits { IfOk result (λ x. fits_class_member (λ p. p) x) }
     ensures shorter { Shorter I.machine I.state p.old p.new result }
 {

@@ -1,10 +1,13 @@
 //! Makers of classes and of their members. Each stands in a function of its own, so that rules keep small frames.
 ghost use Rattle.std.specs.Prelude.{◌≡◌, true, All, IfErr, IfOk};
 ghost use Rattle.grammar_spec.specs.Tokens.Shape as shape;
-ghost use Rattle.tree_nodes.specs.Fits.{fits_block_stmt, fits_class, fits_class_expr, fits_class_member, fits_function, fits_held, fits_key, fits_prop_name};
+ghost use Rattle.tree_nodes.specs.Fits.{fits_block_stmt, fits_class, fits_class_expr, fits_class_member};
+ghost use Rattle.tree_nodes.specs.Fits.{fits_function, fits_held, fits_key, fits_prop_name};
 ghost use Rattle.tree_nodes.specs.Placed.{holds_expr, holds_stmt, inner};
-ghost use Rattle.tree_nodes.specs.View.{method_kind_word, view_block_stmt, view_class, view_class_expr, view_class_member, view_function, view_ident, view_key, view_private_name, view_prop_name};
-ghost use Rattle.tree_spec.specs.Tree.{auto_accessor, class, class_decl, class_expr, class_method, class_prop, empty_stmt, ident, none, part_by, private_method, private_prop, static_block, trees_by};
+ghost use Rattle.tree_nodes.specs.View.{method_kind_word, view_block_stmt, view_class, view_class_expr, view_class_member};
+ghost use Rattle.tree_nodes.specs.View.{view_function, view_ident, view_key, view_private_name, view_prop_name};
+ghost use Rattle.tree_spec.specs.Tree.{auto_accessor, class, class_decl, class_expr, class_method, class_prop, empty_stmt, ident};
+ghost use Rattle.tree_spec.specs.Tree.{none, part_by, private_method, private_prop, static_block, trees_by};
 ghost use Rattle.parse_state.specs.Answers.{IsMemory};
 ghost use Rattle.parse_operands.specs.Operands.{tree_of};
 ghost use Rattle.parse_classes.specs.Members.{constructor_from, field_of, method_of, plain_method_of};

@@ -5,7 +5,6 @@ ghost use Rattle.tree_nodes.specs.Placed.{inner};
 ghost use Rattle.tree_nodes.specs.View.{view_class_member, view_key};
 ghost use Rattle.grammar_spec.specs.Reader.Statements as reads;
 ghost use Rattle.parse_state.specs.Codes.{code_of};
-ghost use Rattle.parse_state.specs.States.{from};
 ghost use Rattle.parse_state.specs.Reads.{Shorter};
 ghost use Rattle.parse_operands.specs.Rules.{ReadsBy};
 ghost use Rattle.parse_classes.specs.Members.{last_member, word_member};
@@ -24,7 +23,7 @@ use tree_nodes::{ClassMember, Key, MethodKind};
 
 /// A method, after its key; by its key a constructor.
 #[inline(never)]
-#[tactic(auto, using(parse_state::proofs::Marks::marks, crate::proofs::Keys::pairs), unfolding(grammar_spec::specs::Reader::Statements::class_method_by))]
+#[tactic(auto, using(crate::proofs::Keys::pairs), unfolding(grammar_spec::specs::Reader::Statements::class_method_by))]
 pub fn method<'a, I: Tokens<'a> + Drop, N: Nested<'a, I>>(
     p: &mut Parser<'a, I>,
     nested: &N,
@@ -39,7 +38,7 @@ pub fn method<'a, I: Tokens<'a> + Drop, N: Nested<'a, I>>(
     requires key { fits_key (λ p. p) key }
     ensures value { ReadsBy I.machine I.state (N.reads nested.now) p.old p.new result
         (view_class_member inner)
-        (λ m r. reads.class_method_by m r (code_of code) (from start.0) is_static generator is_async
+        (λ m r. reads.class_method_by m r (code_of code) start.0 is_static generator is_async
         (view_key inner key)) }
     ensures fits { IfOk result (λ x. fits_class_member (λ p. p) x) }
     ensures shorter { Shorter I.machine I.state p.old p.new result }
@@ -51,7 +50,7 @@ pub fn method<'a, I: Tokens<'a> + Drop, N: Nested<'a, I>>(
 
 /// A getter, from its word on.
 #[inline(never)]
-#[tactic(auto, using(parse_state::proofs::Marks::marks), unfolding(grammar_spec::specs::Reader::Statements::class_getter))]
+#[tactic(auto, unfolding(grammar_spec::specs::Reader::Statements::class_getter))]
 pub fn getter<'a, I: Tokens<'a> + Drop, N: Nested<'a, I>>(
     p: &mut Parser<'a, I>,
     nested: &N,
@@ -62,7 +61,7 @@ pub fn getter<'a, I: Tokens<'a> + Drop, N: Nested<'a, I>>(
     requires ready { N.ready nested.now }
     ensures value { ReadsBy I.machine I.state (N.reads nested.now) p.old p.new result
         (view_class_member inner)
-        (λ m r. reads.class_getter m r (code_of code) (from start.0) is_static) }
+        (λ m r. reads.class_getter m r (code_of code) start.0 is_static) }
     ensures fits { IfOk result (λ x. fits_class_member (λ p. p) x) }
     ensures shorter { Shorter I.machine I.state p.old p.new result }
 {
@@ -78,7 +77,7 @@ pub fn getter<'a, I: Tokens<'a> + Drop, N: Nested<'a, I>>(
 
 /// A setter, from its word on.
 #[inline(never)]
-#[tactic(auto, using(parse_state::proofs::Marks::marks), unfolding(grammar_spec::specs::Reader::Statements::class_setter))]
+#[tactic(auto, unfolding(grammar_spec::specs::Reader::Statements::class_setter))]
 pub fn setter<'a, I: Tokens<'a> + Drop, N: Nested<'a, I>>(
     p: &mut Parser<'a, I>,
     nested: &N,
@@ -89,7 +88,7 @@ pub fn setter<'a, I: Tokens<'a> + Drop, N: Nested<'a, I>>(
     requires ready { N.ready nested.now }
     ensures value { ReadsBy I.machine I.state (N.reads nested.now) p.old p.new result
         (view_class_member inner)
-        (λ m r. reads.class_setter m r (code_of code) (from start.0) is_static) }
+        (λ m r. reads.class_setter m r (code_of code) start.0 is_static) }
     ensures fits { IfOk result (λ x. fits_class_member (λ p. p) x) }
     ensures shorter { Shorter I.machine I.state p.old p.new result }
 {
@@ -107,7 +106,7 @@ pub fn setter<'a, I: Tokens<'a> + Drop, N: Nested<'a, I>>(
 
 /// A field or a method.
 #[inline(never)]
-#[tactic(auto, using(parse_state::proofs::Marks::marks), unfolding(grammar_spec::specs::Reader::Statements::field_or_method, crate::specs::Members::field_by))]
+#[tactic(auto, unfolding(grammar_spec::specs::Reader::Statements::field_or_method, crate::specs::Members::field_by))]
 pub fn field_or_method<'a, I: Tokens<'a> + Drop, N: Nested<'a, I>>(
     p: &mut Parser<'a, I>,
     nested: &N,
@@ -118,7 +117,7 @@ pub fn field_or_method<'a, I: Tokens<'a> + Drop, N: Nested<'a, I>>(
     requires ready { N.ready nested.now }
     ensures value { ReadsBy I.machine I.state (N.reads nested.now) p.old p.new result
         (view_class_member inner)
-        (λ m r. reads.field_or_method m r (code_of code) (from start.0) is_static) }
+        (λ m r. reads.field_or_method m r (code_of code) start.0 is_static) }
     ensures fits { IfOk result (λ x. fits_class_member (λ p. p) x) }
     ensures shorter { Shorter I.machine I.state p.old p.new result }
 {
@@ -132,7 +131,7 @@ pub fn field_or_method<'a, I: Tokens<'a> + Drop, N: Nested<'a, I>>(
 
 /// A method, from its star or its key on.
 #[inline(never)]
-#[tactic(auto, using(parse_state::proofs::Marks::marks), unfolding(grammar_spec::specs::Reader::Statements::generator_member))]
+#[tactic(auto, unfolding(grammar_spec::specs::Reader::Statements::generator_member))]
 pub fn generator_member<'a, I: Tokens<'a> + Drop, N: Nested<'a, I>>(
     p: &mut Parser<'a, I>,
     nested: &N,
@@ -144,7 +143,7 @@ pub fn generator_member<'a, I: Tokens<'a> + Drop, N: Nested<'a, I>>(
     requires ready { N.ready nested.now }
     ensures value { ReadsBy I.machine I.state (N.reads nested.now) p.old p.new result
         (view_class_member inner)
-        (λ m r. reads.generator_member m r (code_of code) (from start.0) is_static is_async) }
+        (λ m r. reads.generator_member m r (code_of code) start.0 is_static is_async) }
     ensures fits { IfOk result (λ x. fits_class_member (λ p. p) x) }
     ensures shorter { Shorter I.machine I.state p.old p.new result }
 {
@@ -155,7 +154,6 @@ pub fn generator_member<'a, I: Tokens<'a> + Drop, N: Nested<'a, I>>(
 
 /// A member that is no generator, no `async` method, no getter and no setter.
 #[inline(always)]
-#[tactic(auto, using(parse_state::proofs::Marks::marks), unfolding(crate::specs::Members::last_member))]
 pub fn last_member<'a, I: Tokens<'a> + Drop, N: Nested<'a, I>>(
     p: &mut Parser<'a, I>,
     nested: &N,
@@ -165,7 +163,7 @@ pub fn last_member<'a, I: Tokens<'a> + Drop, N: Nested<'a, I>>(
 ) -> Result<ClassMember, Failure>
     requires ready { N.ready nested.now }
     ensures value { ReadsBy I.machine I.state (N.reads nested.now) p.old p.new result
-        (view_class_member inner) (λ m r. last_member m r (code_of code) (from start.0) is_static) }
+        (view_class_member inner) (λ m r. last_member m r (code_of code) start.0 is_static) }
     ensures fits { IfOk result (λ x. fits_class_member (λ p. p) x) }
     ensures shorter { Shorter I.machine I.state p.old p.new result }
 {
@@ -177,7 +175,6 @@ pub fn last_member<'a, I: Tokens<'a> + Drop, N: Nested<'a, I>>(
 
 /// A member that is no generator and no `async` method.
 #[inline(always)]
-#[tactic(auto, using(parse_state::proofs::Marks::marks), unfolding(crate::specs::Members::word_member))]
 pub fn word_member<'a, I: Tokens<'a> + Drop, N: Nested<'a, I>>(
     p: &mut Parser<'a, I>,
     nested: &N,
@@ -187,7 +184,7 @@ pub fn word_member<'a, I: Tokens<'a> + Drop, N: Nested<'a, I>>(
 ) -> Result<ClassMember, Failure>
     requires ready { N.ready nested.now }
     ensures value { ReadsBy I.machine I.state (N.reads nested.now) p.old p.new result
-        (view_class_member inner) (λ m r. word_member m r (code_of code) (from start.0) is_static) }
+        (view_class_member inner) (λ m r. word_member m r (code_of code) start.0 is_static) }
     ensures fits { IfOk result (λ x. fits_class_member (λ p. p) x) }
     ensures shorter { Shorter I.machine I.state p.old p.new result }
 {
@@ -202,7 +199,7 @@ pub fn word_member<'a, I: Tokens<'a> + Drop, N: Nested<'a, I>>(
 
 /// A member, after `static` where it stands.
 #[inline(never)]
-#[tactic(auto, using(parse_state::proofs::Marks::marks), unfolding(grammar_spec::specs::Reader::Statements::member_rest, crate::specs::Members::word_member, crate::specs::Members::last_member))]
+#[tactic(auto, unfolding(grammar_spec::specs::Reader::Statements::member_rest))]
 pub fn member_rest<'a, I: Tokens<'a> + Drop, N: Nested<'a, I>>(
     p: &mut Parser<'a, I>,
     nested: &N,
@@ -213,7 +210,7 @@ pub fn member_rest<'a, I: Tokens<'a> + Drop, N: Nested<'a, I>>(
     requires ready { N.ready nested.now }
     ensures value { ReadsBy I.machine I.state (N.reads nested.now) p.old p.new result
         (view_class_member inner)
-        (λ m r. reads.member_rest m r (code_of code) (from start.0) is_static) }
+        (λ m r. reads.member_rest m r (code_of code) start.0 is_static) }
     ensures fits { IfOk result (λ x. fits_class_member (λ p. p) x) }
     ensures shorter { Shorter I.machine I.state p.old p.new result }
 {

@@ -1,3 +1,2 @@
 -- What is read behind the characters of a template.
 pub mod Steps
-pub mod Starts

@@ -1,7 +1,6 @@
 //! `new`.
 ghost use Rattle.grammar_spec.specs.Reader.Expressions as reads;
 ghost use Rattle.parse_state.specs.Codes.{code_of};
-ghost use Rattle.parse_state.specs.States.{from};
 ghost use Rattle.parse_state.specs.Reads.{ReadsAs, Shorter, NotLonger};
 ghost use Rattle.parse_operands.specs.Operands.{tree_of};
 ghost use Rattle.parse_operands.specs.Rules.{ReadsBy};
@@ -17,7 +16,7 @@ use tree_nodes::MetaPropKind;
 
 /// The arguments of `new`, after what is called.
 #[inline(never)]
-#[tactic(auto, using(parse_state::proofs::Marks::marks, parse_operands::proofs::Packs::packs), unfolding(crate::specs::News::new_call_by))]
+#[tactic(auto, using(parse_operands::proofs::Packs::packs), unfolding(crate::specs::News::new_call_by))]
 pub fn new_call<'a, I: Tokens<'a> + Drop, N: Nested<'a, I>>(
     p: &mut Parser<'a, I>,
     nested: &N,
@@ -27,7 +26,7 @@ pub fn new_call<'a, I: Tokens<'a> + Drop, N: Nested<'a, I>>(
 ) -> Result<Operand, Failure>
     requires ready { N.ready nested.now }
     ensures value { ReadsBy I.machine I.state (N.reads nested.now) p.old p.new result
-        tree_of (λ m r. pieces.new_call_by m r (code_of code) (from start.0) (tree_of f)) }
+        tree_of (λ m r. pieces.new_call_by m r (code_of code) start.0 (tree_of f)) }
     ensures shorter { Shorter I.machine I.state p.old p.new result }
 {
     p.bump()?;
@@ -37,7 +36,7 @@ pub fn new_call<'a, I: Tokens<'a> + Drop, N: Nested<'a, I>>(
 
 /// `new` without arguments, after what is called.
 #[inline(never)]
-#[tactic(auto, using(parse_state::proofs::Marks::marks), unfolding(crate::specs::News::bare_new_by))]
+#[tactic(auto, unfolding(crate::specs::News::bare_new_by))]
 pub fn bare_new<'a, I: Tokens<'a> + Drop>(
     p: &Parser<'a, I>,
     code: Around,
@@ -45,7 +44,7 @@ pub fn bare_new<'a, I: Tokens<'a> + Drop>(
     f: Operand,
 ) -> Result<Operand, Failure>
     ensures value { ReadsAs I.machine I.state p.now p.now result
-        tree_of (λ m. pieces.bare_new_by m (code_of code) (from start.0) (tree_of f)) }
+        tree_of (λ m. pieces.bare_new_by m (code_of code) start.0 (tree_of f)) }
 {
     let goes = p.goes(code, OTHER_END)?;
     if (f.level >= MEMBER || f.level == NEW_LEVEL) && goes < CALL {
@@ -66,7 +65,7 @@ pub fn new_end<'a, I: Tokens<'a> + Drop, N: Nested<'a, I>>(
 ) -> Result<Operand, Failure>
     requires ready { N.ready nested.now }
     ensures value { ReadsBy I.machine I.state (N.reads nested.now) p.old p.new result
-        tree_of (λ m r. reads.new_end m r (code_of code) (from start.0) (tree_of f)) }
+        tree_of (λ m r. reads.new_end m r (code_of code) start.0 (tree_of f)) }
     ensures not_longer { NotLonger I.machine I.state p.old p.new result }
 {
     if p.at(kinds::LEFT_PAREN) && f.level >= MEMBER {
@@ -77,7 +76,7 @@ pub fn new_end<'a, I: Tokens<'a> + Drop, N: Nested<'a, I>>(
 
 /// `new`, with arguments or without, or `new.target`.
 #[inline(never)]
-#[tactic(auto, using(parse_state::proofs::Marks::marks, crate::proofs::Starts::starts), unfolding(grammar_spec::specs::Reader::Expressions::new_by))]
+#[tactic(auto, unfolding(grammar_spec::specs::Reader::Expressions::new_by))]
 pub fn new_expr<'a, I: Tokens<'a> + Drop, N: Nested<'a, I>>(
     p: &mut Parser<'a, I>,
     nested: &N,

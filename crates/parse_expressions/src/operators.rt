@@ -4,11 +4,10 @@ ghost use Rattle.base_token.specs.OperatorKinds.{assign_op_kind, binary_op_kind}
 ghost use Rattle.grammar_spec.specs.Tokens.Input.{kind, kind2, lo};
 ghost use Rattle.tree_nodes.specs.Fits.{fits_expr_or_spread, fits_member_prop};
 ghost use Rattle.tree_nodes.specs.Placed.{holds_expr, inner};
-ghost use Rattle.tree_nodes.specs.View.{unary_op_word, update_op_word, view_computed_prop_name, view_expr_or_spread, view_member_prop, view_private_name};
+ghost use Rattle.tree_nodes.specs.View.{view_member_prop};
 ghost use Rattle.grammar_spec.specs.Reader.Expressions as reads;
 ghost use Rattle.parse_state.specs.Answers.{going_on};
 ghost use Rattle.parse_state.specs.Codes.{code_of};
-ghost use Rattle.parse_state.specs.States.{from, from_span};
 ghost use Rattle.parse_state.specs.Reads.{at_hand, Shorter};
 ghost use Rattle.parse_operands.specs.Lists.{arguments_of, elements_of, FitArguments, FitElements};
 ghost use Rattle.parse_operands.specs.Operands.{tree_of};
@@ -28,7 +27,7 @@ use tree_nodes::{IdentName, MemberProp};
 
 /// `? :` after its test.
 #[inline(never)]
-#[tactic(auto, using(parse_state::proofs::Marks::marks), unfolding(grammar_spec::specs::Reader::Expressions::cond_by))]
+#[tactic(auto, unfolding(grammar_spec::specs::Reader::Expressions::cond_by))]
 pub fn conditional<'a, I: Tokens<'a> + Drop, N: Nested<'a, I>>(
     p: &mut Parser<'a, I>,
     nested: &N,
@@ -38,7 +37,7 @@ pub fn conditional<'a, I: Tokens<'a> + Drop, N: Nested<'a, I>>(
 ) -> Result<Operand, Failure>
     requires ready { N.ready nested.now }
     ensures value { ReadsBy I.machine I.state (N.reads nested.now) p.old p.new result
-        tree_of (λ m r. reads.cond_by m r (code_of code) (from start.0) (tree_of test)) }
+        tree_of (λ m r. reads.cond_by m r (code_of code) start.0 (tree_of test)) }
     ensures shorter { Shorter I.machine I.state p.old p.new result }
 {
     let test = Held { value: test };
@@ -52,7 +51,7 @@ pub fn conditional<'a, I: Tokens<'a> + Drop, N: Nested<'a, I>>(
 
 /// A binary operator and its right operand, after the left one.
 #[inline(never)]
-#[tactic(auto, using(parse_state::proofs::Marks::marks), unfolding(grammar_spec::specs::Reader::Expressions::binary_by))]
+#[tactic(auto, unfolding(grammar_spec::specs::Reader::Expressions::binary_by))]
 pub fn binary<'a, I: Tokens<'a> + Drop, N: Nested<'a, I>>(
     p: &mut Parser<'a, I>,
     nested: &N,
@@ -65,7 +64,7 @@ pub fn binary<'a, I: Tokens<'a> + Drop, N: Nested<'a, I>>(
     requires op { binary_op_kind op ≡ kind (at_hand I.machine I.state p.old) }
     requires some { kind (at_hand I.machine I.state p.old) ≢ 0 }
     ensures value { ReadsBy I.machine I.state (N.reads nested.now) p.old p.new result
-        tree_of (λ m r. reads.binary_by m r (code_of code) (from start.0) (tree_of left)) }
+        tree_of (λ m r. reads.binary_by m r (code_of code) start.0 (tree_of left)) }
     ensures shorter { Shorter I.machine I.state p.old p.new result }
 {
     let left = Held { value: left };
@@ -77,7 +76,7 @@ pub fn binary<'a, I: Tokens<'a> + Drop, N: Nested<'a, I>>(
 
 /// An assignment, after its target.
 #[inline(never)]
-#[tactic(auto, using(parse_state::proofs::Marks::marks), unfolding(grammar_spec::specs::Reader::Expressions::assign_by))]
+#[tactic(auto, unfolding(grammar_spec::specs::Reader::Expressions::assign_by))]
 pub fn assignment<'a, I: Tokens<'a> + Drop, N: Nested<'a, I>>(
     p: &mut Parser<'a, I>,
     nested: &N,
@@ -89,7 +88,7 @@ pub fn assignment<'a, I: Tokens<'a> + Drop, N: Nested<'a, I>>(
     requires ready { N.ready nested.now }
     requires op { assign_op_kind op ≡ kind (at_hand I.machine I.state p.old) }
     ensures value { ReadsBy I.machine I.state (N.reads nested.now) p.old p.new result
-        tree_of (λ m r. reads.assign_by m r (code_of code) (from start.0) (tree_of left)) }
+        tree_of (λ m r. reads.assign_by m r (code_of code) start.0 (tree_of left)) }
     ensures shorter { Shorter I.machine I.state p.old p.new result }
 {
     let target = nested.target(p, p.kind(), left)?;
@@ -100,7 +99,7 @@ pub fn assignment<'a, I: Tokens<'a> + Drop, N: Nested<'a, I>>(
 
 /// What follows a dot: a name, or a private one.
 #[inline(never)]
-#[tactic(auto, using(parse_state::proofs::Marks::marks), unfolding(grammar_spec::specs::Reader::Expressions::member_name))]
+#[tactic(auto, unfolding(grammar_spec::specs::Reader::Expressions::member_name))]
 pub fn member_name<'a, I: Tokens<'a> + Drop, N: Nested<'a, I>>(
     p: &mut Parser<'a, I>,
     nested: &N,
@@ -121,7 +120,7 @@ pub fn member_name<'a, I: Tokens<'a> + Drop, N: Nested<'a, I>>(
 
 /// A member by its name, after its object.
 #[inline(never)]
-#[tactic(auto, using(parse_state::proofs::Marks::marks), unfolding(grammar_spec::specs::Reader::Expressions::member_by))]
+#[tactic(auto, unfolding(grammar_spec::specs::Reader::Expressions::member_by))]
 pub fn member<'a, I: Tokens<'a> + Drop, N: Nested<'a, I>>(
     p: &mut Parser<'a, I>,
     nested: &N,
@@ -131,7 +130,7 @@ pub fn member<'a, I: Tokens<'a> + Drop, N: Nested<'a, I>>(
 ) -> Result<Operand, Failure>
     requires ready { N.ready nested.now }
     ensures value { ReadsBy I.machine I.state (N.reads nested.now) p.old p.new result
-        tree_of (λ m r. reads.member_by m r (code_of _code) (from start.0) (tree_of obj)) }
+        tree_of (λ m r. reads.member_by m r (code_of _code) start.0 (tree_of obj)) }
     ensures shorter { Shorter I.machine I.state p.old p.new result }
 {
     p.bump()?;
@@ -141,7 +140,7 @@ pub fn member<'a, I: Tokens<'a> + Drop, N: Nested<'a, I>>(
 
 /// A member in brackets, after its object.
 #[inline(never)]
-#[tactic(auto, using(parse_state::proofs::Marks::marks), unfolding(grammar_spec::specs::Reader::Expressions::index_by))]
+#[tactic(auto, unfolding(grammar_spec::specs::Reader::Expressions::index_by))]
 pub fn index<'a, I: Tokens<'a> + Drop, N: Nested<'a, I>>(
     p: &mut Parser<'a, I>,
     nested: &N,
@@ -151,7 +150,7 @@ pub fn index<'a, I: Tokens<'a> + Drop, N: Nested<'a, I>>(
 ) -> Result<Operand, Failure>
     requires ready { N.ready nested.now }
     ensures value { ReadsBy I.machine I.state (N.reads nested.now) p.old p.new result
-        tree_of (λ m r. reads.index_by m r (code_of code) (from start.0) (tree_of obj)) }
+        tree_of (λ m r. reads.index_by m r (code_of code) start.0 (tree_of obj)) }
     ensures shorter { Shorter I.machine I.state p.old p.new result }
 {
     let key = computed(p, nested, code, EXPRESSION)?;
@@ -160,7 +159,7 @@ pub fn index<'a, I: Tokens<'a> + Drop, N: Nested<'a, I>>(
 
 /// A call, after its callee.
 #[inline(never)]
-#[tactic(auto, using(parse_state::proofs::Marks::marks, parse_operands::proofs::Packs::packs), unfolding(grammar_spec::specs::Reader::Expressions::call_by))]
+#[tactic(auto, using(parse_operands::proofs::Packs::packs), unfolding(grammar_spec::specs::Reader::Expressions::call_by))]
 pub fn call<'a, I: Tokens<'a> + Drop, N: Nested<'a, I>>(
     p: &mut Parser<'a, I>,
     nested: &N,
@@ -170,7 +169,7 @@ pub fn call<'a, I: Tokens<'a> + Drop, N: Nested<'a, I>>(
 ) -> Result<Operand, Failure>
     requires ready { N.ready nested.now }
     ensures value { ReadsBy I.machine I.state (N.reads nested.now) p.old p.new result
-        tree_of (λ m r. reads.call_by m r (code_of code) (from start.0) (tree_of callee)) }
+        tree_of (λ m r. reads.call_by m r (code_of code) start.0 (tree_of callee)) }
     ensures shorter { Shorter I.machine I.state p.old p.new result }
 {
     p.bump()?;
@@ -180,7 +179,7 @@ pub fn call<'a, I: Tokens<'a> + Drop, N: Nested<'a, I>>(
 
 /// What follows `?.`, after its object.
 #[inline(never)]
-#[tactic(auto, using(parse_state::proofs::Marks::marks, parse_operands::proofs::Packs::packs), unfolding(grammar_spec::specs::Reader::Expressions::chain_by))]
+#[tactic(auto, using(parse_operands::proofs::Packs::packs), unfolding(grammar_spec::specs::Reader::Expressions::chain_by))]
 pub fn chain<'a, I: Tokens<'a> + Drop, N: Nested<'a, I>>(
     p: &mut Parser<'a, I>,
     nested: &N,
@@ -190,7 +189,7 @@ pub fn chain<'a, I: Tokens<'a> + Drop, N: Nested<'a, I>>(
 ) -> Result<Operand, Failure>
     requires ready { N.ready nested.now }
     ensures value { ReadsBy I.machine I.state (N.reads nested.now) p.old p.new result
-        tree_of (λ m r. reads.chain_by m r (code_of code) (from start.0) (tree_of obj)) }
+        tree_of (λ m r. reads.chain_by m r (code_of code) start.0 (tree_of obj)) }
     ensures shorter { Shorter I.machine I.state p.old p.new result }
 {
     let obj = Held { value: obj };

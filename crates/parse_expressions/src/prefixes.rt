@@ -4,12 +4,11 @@ ghost use Rattle.base_token.specs.OperatorKinds.{assign_op_kind, binary_op_kind}
 ghost use Rattle.grammar_spec.specs.Tokens.Input.{kind, kind2, lo, first_span, span};
 ghost use Rattle.tree_nodes.specs.Fits.{fits_expr_or_spread, fits_member_prop};
 ghost use Rattle.tree_nodes.specs.Placed.{holds_expr, inner};
-ghost use Rattle.tree_nodes.specs.View.{unary_op_word, update_op_word, view_computed_prop_name, view_expr_or_spread, view_member_prop, view_private_name};
+ghost use Rattle.tree_nodes.specs.View.{unary_op_word, update_op_word};
 ghost use Rattle.grammar_spec.specs.Reader.Expressions as reads;
 ghost use Rattle.parse_state.specs.Answers.{going_on};
 ghost use Rattle.parse_state.specs.Codes.{code_of};
 ghost use Rattle.parse_state.specs.Cursors.{stream_of};
-ghost use Rattle.parse_state.specs.States.{from, from_span};
 ghost use Rattle.parse_state.specs.Reads.{at_hand, ReadsAs, Shorter, NotLonger};
 ghost use Rattle.parse_operands.specs.Lists.{arguments_of, elements_of, FitArguments, FitElements};
 ghost use Rattle.parse_operands.specs.Operands.{tree_of};
@@ -27,7 +26,7 @@ use tree_nodes::{IdentName, SuperProp, UnaryOp, UpdateOp};
 
 /// A literal.
 #[inline(never)]
-#[tactic(auto, using(parse_state::proofs::Marks::marks), unfolding(grammar_spec::specs::Reader::Expressions::literal_by, parse_state::specs::Cursors::stream_of))]
+#[tactic(auto, unfolding(grammar_spec::specs::Reader::Expressions::literal_by, parse_state::specs::Cursors::stream_of))]
 pub fn literal<'a, I: Tokens<'a> + Drop, N: Nested<'a, I>>(
     p: &mut Parser<'a, I>,
     _nested: &N,
@@ -71,7 +70,7 @@ pub fn fixed<'a, I: Tokens<'a> + Drop>(p: &mut Parser<'a, I>, code: Around) -> R
 
 /// An operator that stands before its operand.
 #[inline(never)]
-#[tactic(auto, using(parse_state::proofs::Marks::marks), unfolding(grammar_spec::specs::Reader::Expressions::unary_by))]
+#[tactic(auto, unfolding(grammar_spec::specs::Reader::Expressions::unary_by))]
 pub fn unary<'a, I: Tokens<'a> + Drop, N: Nested<'a, I>>(
     p: &mut Parser<'a, I>,
     nested: &N,
@@ -93,7 +92,7 @@ pub fn unary<'a, I: Tokens<'a> + Drop, N: Nested<'a, I>>(
 
 /// `++` or `--` before its operand.
 #[inline(never)]
-#[tactic(auto, using(parse_state::proofs::Marks::marks), unfolding(grammar_spec::specs::Reader::Expressions::update_by))]
+#[tactic(auto, unfolding(grammar_spec::specs::Reader::Expressions::update_by))]
 pub fn update<'a, I: Tokens<'a> + Drop, N: Nested<'a, I>>(
     p: &mut Parser<'a, I>,
     nested: &N,
@@ -114,7 +113,7 @@ pub fn update<'a, I: Tokens<'a> + Drop, N: Nested<'a, I>>(
 
 /// `await` with its operand.
 #[inline(never)]
-#[tactic(auto, using(parse_state::proofs::Marks::marks), unfolding(grammar_spec::specs::Reader::Expressions::await_by))]
+#[tactic(auto, unfolding(grammar_spec::specs::Reader::Expressions::await_by))]
 pub fn awaited<'a, I: Tokens<'a> + Drop, N: Nested<'a, I>>(
     p: &mut Parser<'a, I>,
     nested: &N,
@@ -154,7 +153,7 @@ pub fn ends_yield<'a, I: Tokens<'a> + Drop, N: Nested<'a, I>>(
 
 /// What follows `yield`.
 #[inline(never)]
-#[tactic(auto, using(parse_state::proofs::Marks::marks), unfolding(grammar_spec::specs::Reader::Expressions::yield_end))]
+#[tactic(auto, unfolding(grammar_spec::specs::Reader::Expressions::yield_end))]
 pub fn yield_end<'a, I: Tokens<'a> + Drop, N: Nested<'a, I>>(
     p: &mut Parser<'a, I>,
     nested: &N,
@@ -163,7 +162,7 @@ pub fn yield_end<'a, I: Tokens<'a> + Drop, N: Nested<'a, I>>(
 ) -> Result<Operand, Failure>
     requires ready { N.ready nested.now }
     ensures value { ReadsBy I.machine I.state (N.reads nested.now) p.old p.new result
-        tree_of (λ m r. reads.yield_end m r (code_of code) (from start.0)) }
+        tree_of (λ m r. reads.yield_end m r (code_of code) start.0) }
     ensures not_longer { NotLonger I.machine I.state p.old p.new result }
 {
     if p.breaks() || ends_yield(p, nested, p.kind()) {
@@ -179,7 +178,7 @@ pub fn yield_end<'a, I: Tokens<'a> + Drop, N: Nested<'a, I>>(
 
 /// An array, from its bracket on.
 #[inline(never)]
-#[tactic(auto, using(parse_state::proofs::Marks::marks, parse_operands::proofs::Packs::packs), unfolding(grammar_spec::specs::Reader::Expressions::array_by))]
+#[tactic(auto, using(parse_operands::proofs::Packs::packs), unfolding(grammar_spec::specs::Reader::Expressions::array_by))]
 pub fn array<'a, I: Tokens<'a> + Drop, N: Nested<'a, I>>(
     p: &mut Parser<'a, I>,
     nested: &N,
@@ -202,7 +201,7 @@ pub fn array<'a, I: Tokens<'a> + Drop, N: Nested<'a, I>>(
 
 /// The callee of `new`.
 #[inline(never)]
-#[tactic(auto, using(parse_state::proofs::Marks::marks), unfolding(grammar_spec::specs::Reader::Expressions::callee_by))]
+#[tactic(auto, unfolding(grammar_spec::specs::Reader::Expressions::callee_by))]
 pub fn callee<'a, I: Tokens<'a> + Drop, N: Nested<'a, I>>(
     p: &mut Parser<'a, I>,
     nested: &N,
@@ -226,7 +225,7 @@ pub fn callee<'a, I: Tokens<'a> + Drop, N: Nested<'a, I>>(
 
 /// What follows `super`.
 #[inline(never)]
-#[tactic(auto, using(parse_state::proofs::Marks::marks, parse_operands::proofs::Packs::packs), unfolding(grammar_spec::specs::Reader::Expressions::super_end))]
+#[tactic(auto, using(parse_operands::proofs::Packs::packs), unfolding(grammar_spec::specs::Reader::Expressions::super_end))]
 pub fn super_end<'a, I: Tokens<'a> + Drop, N: Nested<'a, I>>(
     p: &mut Parser<'a, I>,
     nested: &N,
@@ -235,7 +234,7 @@ pub fn super_end<'a, I: Tokens<'a> + Drop, N: Nested<'a, I>>(
 ) -> Result<Operand, Failure>
     requires ready { N.ready nested.now }
     ensures value { ReadsBy I.machine I.state (N.reads nested.now) p.old p.new result
-        tree_of (λ m r. reads.super_end m r (code_of code) (from_span place)) }
+        tree_of (λ m r. reads.super_end m r (code_of code) place) }
     ensures shorter { Shorter I.machine I.state p.old p.new result }
 {
     if p.eat(kinds::LEFT_PAREN)? {
@@ -267,7 +266,7 @@ pub fn super_end<'a, I: Tokens<'a> + Drop, N: Nested<'a, I>>(
 
 /// `yield`, with its operand or without.
 #[inline(never)]
-#[tactic(auto, using(parse_state::proofs::Marks::marks, crate::proofs::Starts::starts), unfolding(grammar_spec::specs::Reader::Expressions::yield_by))]
+#[tactic(auto, unfolding(grammar_spec::specs::Reader::Expressions::yield_by))]
 pub fn yielded<'a, I: Tokens<'a> + Drop, N: Nested<'a, I>>(
     p: &mut Parser<'a, I>,
     nested: &N,

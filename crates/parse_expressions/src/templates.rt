@@ -11,7 +11,6 @@ ghost use Rattle.parse_state.specs.Answers.{going_on, IsMemory};
 ghost use Rattle.tree_spec.specs.Tree.{pack, tpl};
 ghost use Rattle.parse_state.specs.Codes.{code_of};
 ghost use Rattle.parse_state.specs.Cursors.{stream_of};
-ghost use Rattle.parse_state.specs.States.{from};
 ghost use Rattle.parse_state.specs.Reads.{at_hand, Passes, Shorter};
 ghost use Rattle.parse_operands.specs.Lists.{spans_of, FitSpans};
 ghost use Rattle.parse_operands.specs.Operands.{tree_of};
@@ -44,7 +43,7 @@ fn add(spans: &mut Spans, element: TplElement, read: Operand) -> Result<(), Fail
 
 /// What ends the characters of a template: its end, or an expression. Whether more characters follow.
 #[inline(always)]
-#[tactic(auto, using(parse_state::proofs::Marks::marks), unfolding(grammar_spec::specs::Reader::Expressions::quasi_end))]
+#[tactic(auto, unfolding(grammar_spec::specs::Reader::Expressions::quasi_end))]
 pub fn characters_end<'a, I: Tokens<'a> + Drop, N: Nested<'a, I>>(
     p: &mut Parser<'a, I>,
     nested: &N,
@@ -84,7 +83,7 @@ pub fn characters_end<'a, I: Tokens<'a> + Drop, N: Nested<'a, I>>(
 
 /// The characters of a template that come. The token is let go here, so that a nested template has no such frame below it.
 #[inline(never)]
-#[tactic(auto, using(parse_state::proofs::Marks::marks), unfolding(grammar_spec::specs::Reader::Source::eat, parse_state::specs::Cursors::stream_of))]
+#[tactic(auto, unfolding(grammar_spec::specs::Reader::Source::eat, parse_state::specs::Cursors::stream_of))]
 fn quasi<'a, I: Tokens<'a> + Drop, N: Nested<'a, I>>(
     p: &mut Parser<'a, I>,
     _nested: &N,
@@ -113,7 +112,7 @@ fn quasi<'a, I: Tokens<'a> + Drop, N: Nested<'a, I>>(
 
 /// The next characters of a template, and what ends them. Whether more follow.
 #[inline(always)]
-#[tactic(auto, using(parse_state::proofs::Marks::marks, crate::proofs::Steps::step_by))]
+#[tactic(auto, using(crate::proofs::Steps::step_by))]
 pub fn characters<'a, I: Tokens<'a> + Drop, N: Nested<'a, I>>(
     p: &mut Parser<'a, I>,
     nested: &N,
@@ -175,7 +174,7 @@ fn template_of(alloc: Global, span: Span, read: Spans) -> Result<Box<Tpl>, Failu
 
 /// A template, from its first back quote on.
 #[inline(never)]
-#[tactic(auto, using(parse_state::proofs::Marks::marks), unfolding(grammar_spec::specs::Reader::Expressions::template_by, crate::specs::Pieces::spans_by))]
+#[tactic(auto, unfolding(grammar_spec::specs::Reader::Expressions::template_by, crate::specs::Pieces::spans_by))]
 pub fn template<'a, I: Tokens<'a> + Drop, N: Nested<'a, I>>(
     p: &mut Parser<'a, I>,
     nested: &N,
@@ -196,7 +195,6 @@ pub fn template<'a, I: Tokens<'a> + Drop, N: Nested<'a, I>>(
 
 /// A template behind its tag.
 #[inline(never)]
-#[tactic(auto, using(parse_state::proofs::Marks::marks), unfolding(crate::specs::Steps::tagged_by))]
 pub fn tagged<'a, I: Tokens<'a> + Drop, N: Nested<'a, I>>(
     p: &mut Parser<'a, I>,
     nested: &N,
@@ -206,7 +204,7 @@ pub fn tagged<'a, I: Tokens<'a> + Drop, N: Nested<'a, I>>(
 ) -> Result<Operand, Failure>
     requires ready { N.ready nested.now }
     ensures value { ReadsBy I.machine I.state (N.reads nested.now) p.old p.new result
-        tree_of (λ m r. tagged_by m r (code_of code) (from start.0) (tree_of tag)) }
+        tree_of (λ m r. tagged_by m r (code_of code) start.0 (tree_of tag)) }
     ensures shorter { Shorter I.machine I.state p.old p.new result }
 {
     let tpl = template(p, nested, code, true)?;

@@ -5,11 +5,10 @@ ghost use Rattle.base_token.specs.OperatorKinds.{assign_op_kind, binary_op_kind}
 ghost use Rattle.grammar_spec.specs.Tokens.Input.{kind, kind2, lo};
 ghost use Rattle.tree_nodes.specs.Fits.{fits_expr_or_spread, fits_member_prop};
 ghost use Rattle.tree_nodes.specs.Placed.{holds_expr, inner};
-ghost use Rattle.tree_nodes.specs.View.{unary_op_word, update_op_word, view_computed_prop_name, view_expr_or_spread, view_member_prop, view_private_name};
+ghost use Rattle.tree_nodes.specs.View.{update_op_word};
 ghost use Rattle.grammar_spec.specs.Reader.Expressions as reads;
 ghost use Rattle.parse_state.specs.Answers.{IsSyntax, going_on};
 ghost use Rattle.parse_state.specs.Codes.{code_of};
-ghost use Rattle.parse_state.specs.States.{from, from_span};
 ghost use Rattle.parse_state.specs.Reads.{at_hand, to_come, ReadsAs, Shorter, NotLonger};
 ghost use Rattle.parse_operands.specs.Lists.{arguments_of, elements_of, FitArguments, FitElements};
 ghost use Rattle.parse_operands.specs.Operands.{tree_of};
@@ -28,7 +27,6 @@ use tree_nodes::UpdateOp;
 
 /// A comma and one more expression.
 #[inline(never)]
-#[tactic(auto, using(parse_state::proofs::Marks::marks), unfolding(crate::specs::Steps::sequence_by))]
 pub fn sequence<'a, I: Tokens<'a> + Drop, N: Nested<'a, I>>(
     p: &mut Parser<'a, I>,
     nested: &N,
@@ -38,7 +36,7 @@ pub fn sequence<'a, I: Tokens<'a> + Drop, N: Nested<'a, I>>(
 ) -> Result<Operand, Failure>
     requires ready { N.ready nested.now }
     ensures value { ReadsBy I.machine I.state (N.reads nested.now) p.old p.new result
-        tree_of (λ m r. sequence_by m r (code_of code) (from start.0) (tree_of left)) }
+        tree_of (λ m r. sequence_by m r (code_of code) start.0 (tree_of left)) }
     ensures shorter { Shorter I.machine I.state p.old p.new result }
 {
     let left = Held { value: left };
@@ -49,7 +47,6 @@ pub fn sequence<'a, I: Tokens<'a> + Drop, N: Nested<'a, I>>(
 
 /// A `?`: of a chain where a dot follows, else of a conditional.
 #[inline(never)]
-#[tactic(auto, using(parse_state::proofs::Marks::marks), unfolding(crate::specs::Steps::question_by))]
 pub fn question<'a, I: Tokens<'a> + Drop, N: Nested<'a, I>>(
     p: &mut Parser<'a, I>,
     nested: &N,
@@ -60,7 +57,7 @@ pub fn question<'a, I: Tokens<'a> + Drop, N: Nested<'a, I>>(
     requires ready { N.ready nested.now }
     requires mark { kind (at_hand I.machine I.state p.old) ≡ question_mark_kind }
     ensures value { ReadsBy I.machine I.state (N.reads nested.now) p.old p.new result
-        tree_of (λ m r. question_by m r (code_of code) (from start.0) (tree_of left)) }
+        tree_of (λ m r. question_by m r (code_of code) start.0 (tree_of left)) }
     ensures shorter { Shorter I.machine I.state p.old p.new result }
 {
     let left = Held { value: left };
@@ -81,7 +78,6 @@ pub fn question<'a, I: Tokens<'a> + Drop, N: Nested<'a, I>>(
 
 /// `++` or `--` behind its operand.
 #[inline(never)]
-#[tactic(auto, using(parse_state::proofs::Marks::marks), unfolding(crate::specs::Steps::postfix_by))]
 pub fn postfix<'a, I: Tokens<'a> + Drop>(
     p: &mut Parser<'a, I>,
     start: BytePos,
@@ -91,7 +87,7 @@ pub fn postfix<'a, I: Tokens<'a> + Drop>(
     requires mark { update_op_word op ≡ kind (at_hand I.machine I.state p.old) }
     requires some { kind (at_hand I.machine I.state p.old) ≢ 0 }
     ensures value { ReadsAs I.machine I.state p.old p.new result
-        tree_of (λ m. postfix_by m (from start.0) (tree_of left)) }
+        tree_of (λ m. postfix_by m start.0 (tree_of left)) }
     ensures shorter { Shorter I.machine I.state p.old p.new result }
 {
     if left.level < NEW_LEVEL {
@@ -114,7 +110,7 @@ fn refused<'a, I: Tokens<'a> + Drop>(p: &Parser<'a, I>, _left: Operand) -> Failu
 
 /// One operator behind what was read.
 #[inline(never)]
-#[tactic(auto, using(parse_state::proofs::Marks::marks), unfolding(grammar_spec::specs::Reader::Expressions::step_by, crate::specs::Steps::sequence_by, crate::specs::Steps::question_by, crate::specs::Steps::postfix_by, crate::specs::Steps::tagged_by))]
+#[tactic(auto, unfolding(grammar_spec::specs::Reader::Expressions::step_by))]
 pub fn step<'a, I: Tokens<'a> + Drop, N: Nested<'a, I>>(
     p: &mut Parser<'a, I>,
     nested: &N,
@@ -124,7 +120,7 @@ pub fn step<'a, I: Tokens<'a> + Drop, N: Nested<'a, I>>(
 ) -> Result<Operand, Failure>
     requires ready { N.ready nested.now }
     ensures value { ReadsBy I.machine I.state (N.reads nested.now) p.old p.new result
-        tree_of (λ m r. reads.step_by m r (code_of code) (from start.0) (tree_of left)) }
+        tree_of (λ m r. reads.step_by m r (code_of code) start.0 (tree_of left)) }
     ensures shorter { Shorter I.machine I.state p.old p.new result }
 {
     let kind = p.kind();
@@ -163,7 +159,7 @@ pub fn step<'a, I: Tokens<'a> + Drop, N: Nested<'a, I>>(
 
 /// One operator behind what was read, if it binds as tightly as asked. Whether there was one.
 #[inline(always)]
-#[tactic(auto, using(parse_state::proofs::Marks::marks), unfolding(grammar_spec::specs::Reader::Expressions::loop_step))]
+#[tactic(auto, unfolding(grammar_spec::specs::Reader::Expressions::loop_step))]
 pub fn turn<'a, I: Tokens<'a> + Drop, N: Nested<'a, I>>(
     p: &mut Parser<'a, I>,
     nested: &N,
@@ -175,7 +171,7 @@ pub fn turn<'a, I: Tokens<'a> + Drop, N: Nested<'a, I>>(
     requires ready { N.ready nested.now }
     ensures value { ReadsBy I.machine I.state (N.reads nested.now) p.old p.new result
         (λ x. going_on x.0 (tree_of x.1))
-        (λ m r. reads.loop_step m r (code_of code) least (from start.0) (tree_of left)) }
+        (λ m r. reads.loop_step m r (code_of code) least start.0 (tree_of left)) }
     ensures shorter { IfOk result (λ x. IsTrue x.0 → to_come I.machine I.state p.new
         < to_come I.machine I.state p.old) }
     ensures not_longer { NotLonger I.machine I.state p.old p.new result }
@@ -202,7 +198,7 @@ pub fn operators<'a, I: Tokens<'a> + Drop, N: Nested<'a, I>>(
 ) -> Result<Operand, Failure>
     requires ready { N.ready nested.now }
     ensures value { ReadsBy I.machine I.state (N.reads nested.now) p.old p.new result
-        tree_of (λ m r. reads.loop_by m r (code_of code) least (from start.0) (tree_of first)) }
+        tree_of (λ m r. reads.loop_by m r (code_of code) least start.0 (tree_of first)) }
     ensures not_longer { NotLonger I.machine I.state p.old p.new result }
 {
     if first.level < least {

@@ -9,7 +9,7 @@ use Rattle.grammar_spec.specs.Tokens.Input.{PlacedToken, Input, Code, kind, kind
 use Rattle.grammar_spec.specs.Tokens.Operators.{may_name, assignment_level}
 use Rattle.grammar_spec.specs.Tokens.Shape.{is_binding, is_param, is_rest, last_tree}
 use Rattle.grammar_spec.specs.Grammar.{Produces}
-use Rattle.grammar_spec.specs.Reader.Source.{Fault, ◌>>=◌, State, past, bound, at, spanned, Step, go_on, finished, next_by, iterate_n}
+use Rattle.grammar_spec.specs.Reader.Source.{Fault, ◌>>=◌, State, past, bound, at, spanned, Step, go_on, finished, next_by, iterate_n, here}
 use Rattle.grammar_spec.specs.Reader.Expressions.{parameter_by, is_rest_param}
 use Rattle.grammar_spec.specs.Reader.Reading.{readers}
 use Rattle.grammar_laws.specs.CompleteBase.Laws.{coded}
@@ -117,13 +117,13 @@ module _ (d : ℕ) (c : Code) where
   Ans = Result (Tree × State Input) Fault
 
   abbrev whole_rest : State Input → Tree × State Input → Ans
-  whole_rest s p = Ok (param (spanned lm s p.1) none (rest_pat (spanned lm s p.1) (dots_at (lo_of s.source.last s.source.places)) p.0), p.1)
+  whole_rest s p = Ok (param (spanned lm (here lm s) p.1) none (rest_pat (spanned lm (here lm s) p.1) (dots_at (here lm s)) p.0), p.1)
 
   abbrev valued : State Input → Tree → Tree × State Input → Ans
-  valued s p e = Ok (param (spanned lm s e.1) none (assign_pat (spanned lm s e.1) p e.0), e.1)
+  valued s p e = Ok (param (spanned lm (here lm s) e.1) none (assign_pat (spanned lm (here lm s) e.1) p e.0), e.1)
 
   abbrev after_pattern : State Input → Tree × State Input → Ans
-  after_pattern s p = cond (at lm assign_kind p.1) ((readers lm d).expr (with_in c) assignment_level (past lm p.1) >>= valued s p.0) (Ok (param (spanned lm s p.1) none p.0, p.1))
+  after_pattern s p = cond (at lm assign_kind p.1) ((readers lm d).expr (with_in c) assignment_level (past lm p.1) >>= valued s p.0) (Ok (param (spanned lm (here lm s) p.1) none p.0, p.1))
 
   -- a rest
   rest_ahead : (n : ℕ) (p : PlacedToken) (v : List PlacedToken) (k : List ℕ) (x : Tree) (r : State Input) → Named (p ∷ v) → eqb p.spot.token.kind dot_dot_dot_kind ≡ true → ((readers lm d).pat (with_in c) (at_list p.spot.hi v k) >>= whole_rest (at_list n (p ∷ v) k)) ≡ Ok (x, r) → One n (p ∷ v) k x r
@@ -175,7 +175,7 @@ module _ (d : ℕ) (c : Code) where
   plain_ahead n ps k x r named dots h =
       let a = then_ok ((readers lm d).pat (with_in c) (at_list n ps k)) (after_pattern (at_list n ps k)) (x, r) h in let p = a.0.0 in let m = a.0.1 in
       let z = (one_ahead d (with_in c)).bindings n ps k p m named a.1 in
-      by_cond (eqb (kind_of m.source.places) assign_kind) ((readers lm d).expr (with_in c) assignment_level (past lm m) >>= valued (at_list n ps k) p) (Ok (param (spanned lm (at_list n ps k) m) none p, m)) (Ok (x, r)) (One n ps k x r) a.2
+      by_cond (eqb (kind_of m.source.places) assign_kind) ((readers lm d).expr (with_in c) assignment_level (past lm m) >>= valued (at_list n ps k) p) (Ok (param (spanned lm (lo_of n ps) m) none p, m)) (Ok (x, r)) (One n ps k x r) a.2
       (λ i j. split_first assign_kind 0 m.source.places (One n ps k x r) refl i (λ q v l. value_ahead n ps k p m q v x r named dots z l i j))
       (λ i j. subst (λ (y : Tree × State Input). One n ps k y.0 y.1) (same_ok _ (x, r) j) (
         z.0,

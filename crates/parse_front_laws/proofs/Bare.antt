@@ -38,7 +38,7 @@ module _ {S : Type 0} {m : Stream S} {Live : S → Type 0} {modular : Bool} (w :
   pub item_by_told : (k : Ceiling) (c : Code) (ce : c.context.module_ ≡ modular) (s : State S) (s' : State Input) (sh : Beside m Live k s s') → Told m Live k (item_by lm il c s') (item_by m im c s)
   unfolding item_by object_rest
   item_by_told k c ce s s' sh = told_at w k dot_dot_dot_kind (refl, refl, refl, refl) s s' sh _ _ _ _ (λ j. told_then w k _ _ _ _ (told.pat k (with_in c) ce (past m s) (past lm s') j.after) (λ p0 p1 p1' p1h. told_if w k (is_structured p0) (is_structured p0) refl _ _ _ _ (λ _. never w k _ _)
-      (λ _. told_ok w k _ _ p1 p1' p1h (ap (λ (z : Span). rest_pat z (dots_at (lo (input lm s'))) p0) (span_same w k k s p1 s' p1' sh p1h) ∙ ap (λ (z : ℕ). rest_pat (spanned m s p1) (dots_at z) p0) (lo_same w k s s' sh)))))
+      (λ _. told_ok w k _ _ p1 p1' p1h (ap (λ (z : Span). rest_pat z (dots_at (lo (input lm s'))) p0) (span_same w k k s p1 s' p1' sh p1h) ∙ ap (λ (z : ℕ). rest_pat (spanned m (lo (input m s)) p1) (dots_at z) p0) (lo_same w k s s' sh)))))
       (pattern_prop_told w told k c ce s s' sh)
 
 -- ---- from the source to a list
@@ -70,7 +70,7 @@ module _ {S : Type 0} {m : Stream S} {Live : Pairing m} {modular : Bool} (w : Pa
 
   pub item_by_backed : (s : State S) (c : Code) (ce : c.context.module_ ≡ modular) (sl : Live.live s.source) → Backed m Live calm true closed_end s (item_by m im c s) (λ r'. item_by lm il c r')
   unfolding item_by object_rest
-  item_by_backed s c ce sl = back_at w {s = s} dot_dot_dot_kind (refl, refl, refl, refl) refl sl _ _ _ _ (λ j. back_past w {s = s} j _ (λ r' q'. (il.pat (with_in c) q' >>= λ p. if is_structured p.0 then unexpected lm p.1 else Ok (rest_pat (spanned lm r' p.1) (dots_at (lo (input lm r'))) p.0, p.1)))
+  item_by_backed s c ce sl = back_at w {s = s} dot_dot_dot_kind (refl, refl, refl, refl) refl sl _ _ _ _ (λ j. back_past w {s = s} j _ (λ r' q'. (il.pat (with_in c) q' >>= λ p. if is_structured p.0 then unexpected lm p.1 else Ok (rest_pat (spanned lm (lo (input lm r')) p.1) (dots_at (lo (input lm r'))) p.0, p.1)))
       (back_then _ _ _ _ (echo.pat (with_in c) ce (past m s) (live_past w j)) (λ pa pt pu. back_test (is_structured pa) (λ r'. is_structured pa) _ _ _ _ (λ qs h. refl) (λ _. back_never) (λ _. back_ok {s = pt} _ _ pu.live
-      (λ qs h. ap (λ (z : ℕ). rest_pat (span z (m.last pt.source)) (dots_at (lo (input lm (was m Live (join (token w j) pu) (list_at m Live pt qs))))) pa) (lo_was w (join (token w j) pu) qs h) ∙ ap (λ (z : ℕ). rest_pat (spanned m s pt) (dots_at z) pa) (lo_was w (join (token w j) pu) qs h)) (shut_keeps 0)))))
+      (λ qs h. ap (λ (z : ℕ). rest_pat (span z (m.last pt.source)) (dots_at (lo (input lm (was m Live (join (token w j) pu) (list_at m Live pt qs))))) pa) (lo_was w (join (token w j) pu) qs h) ∙ ap (λ (z : ℕ). rest_pat (spanned m (lo (input m s)) pt) (dots_at z) pa) (lo_was w (join (token w j) pu) qs h)) (shut_keeps 0)))))
       (pattern_prop_backed w echo s c ce sl)

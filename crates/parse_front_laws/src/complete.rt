@@ -2,7 +2,8 @@
 
 ghost use Rattle.parse_front_laws.specs.Complete.Asyncs.{ExpressionsSettle, FrontsStandAlone};
 ghost use Rattle.parse_front_laws.specs.Complete.Exact.{FrontsAreExact};
-ghost use Rattle.parse_front_laws.specs.Complete.Laws.{BindingsEnd, CutsOff, ExpressionsEnd, FrontsAreOne, FrontsAreRead, KeysEnd, ListItemsEnd, ModuleItemsEnd, StatementsEnd};
+ghost use Rattle.parse_front_laws.specs.Complete.Laws.{BindingsEnd, CutsOff, ExpressionsEnd, FrontsAreOne, FrontsAreRead};
+ghost use Rattle.parse_front_laws.specs.Complete.Laws.{KeysEnd, ListItemsEnd, ModuleItemsEnd, StatementsEnd};
 
 /// Law: a rest may be cut off. What is derived up to a rest is derived of the same front before a closing
 /// brace in its place.

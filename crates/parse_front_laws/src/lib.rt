@@ -1,5 +1,5 @@
-//! Laws of the parser: what an entry for a part of a program reads of a list of tokens is a complete front of it; and what it reads of a source is what it
-//! reads of a list that the source hands out. The functions here are laws alone.
+//! Laws of the parser: what an entry for a part of a program reads of a list of tokens is a complete front of it; and what it
+//! reads of a source is what it reads of a list that the source hands out. The functions here are laws alone.
 #![tactic(auto)]
 
 ghost use Rattle.parse_front_laws.specs.Exact.{FrontsAreAnsweredExactly};

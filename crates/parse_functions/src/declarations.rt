@@ -3,7 +3,6 @@ ghost use Rattle.std.specs.Prelude.{IfOk};
 ghost use Rattle.tree_nodes.specs.Placed.{holds_stmt};
 ghost use Rattle.grammar_spec.specs.Reader.Statements as reads;
 ghost use Rattle.parse_state.specs.Codes.{code_of};
-ghost use Rattle.parse_state.specs.States.{from};
 ghost use Rattle.parse_state.specs.Reads.{Shorter};
 ghost use Rattle.parse_operands.specs.Rules.{ReadsBy};
 ghost use Rattle.parse_operands.specs.Operands.{tree_in};
@@ -18,7 +17,7 @@ use tree_nodes::{Ident, StmtBox};
 
 /// A function with its name, from `function` on. Before it `async` may stand.
 #[inline(never)]
-#[tactic(auto, using(parse_state::proofs::Marks::marks), unfolding(grammar_spec::specs::Reader::Statements::function_decl_by))]
+#[tactic(auto, unfolding(grammar_spec::specs::Reader::Statements::function_decl_by))]
 pub fn function_decl<'a, I: Tokens<'a> + Drop, N: Nested<'a, I>>(
     p: &mut Parser<'a, I>,
     nested: &N,
@@ -28,7 +27,7 @@ pub fn function_decl<'a, I: Tokens<'a> + Drop, N: Nested<'a, I>>(
 ) -> Result<StmtBox, Failure>
     requires ready { N.ready nested.now }
     ensures value { ReadsBy I.machine I.state (N.reads nested.now) p.old p.new result
-        tree_in (λ m r. reads.function_decl_by m r (code_of code) (from start.0) is_async) }
+        tree_in (λ m r. reads.function_decl_by m r (code_of code) start.0 is_async) }
     ensures holds { IfOk result (λ x. holds_stmt x.part.value) }
     ensures shorter { Shorter I.machine I.state p.old p.new result }
 {

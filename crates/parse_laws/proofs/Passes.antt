@@ -4,7 +4,7 @@ use Rattle.base_token.specs.declared.place.Span.{Span}
 use Rattle.base_token.specs.Kinds.{shebang_kind}
 use Rattle.tree_spec.specs.Tree.{Tree, Trees}
 use Rattle.tree_nesting.specs.Nesting.{nesting}
-use Rattle.grammar_spec.specs.Tokens.Input.{Code, content}
+use Rattle.grammar_spec.specs.Tokens.Input.{Code, content, lo}
 use Rattle.grammar_spec.specs.Tokens.Shape.{is_clean}
 use Rattle.grammar_text_spec.specs.Text.{is_of_goal}
 use Rattle.grammar_spec.specs.Reader.Source.{Fault, unexpected, too_deep, ◌>>=◌, Stream, State, Inner, input, past, at, bound, iterate}
@@ -58,7 +58,7 @@ module _ {S : Type 0} (m : Stream S) (inner : Inner S) (modules : Bool) where
   tree_of_goal true p ss l = refl
   tree_of_goal false p ss l = refl
 
-  rest_of_goal : (c : Code) (start : State S) (l : Option (List ℕ)) (s : State S) → OfGoal (program_rest m inner modules c start l s)
+  rest_of_goal : (c : Code) (start : ℕ) (l : Option (List ℕ)) (s : State S) → OfGoal (program_rest m inner modules c start l s)
   unfolding program_rest
   rest_of_goal c start l s = by_body (iterate (bound m) (program_step m inner modules) (record { items = []; code = c; starts = true }) s) _ (λ b. tree_of_goal modules _ _ l)
     where
@@ -68,15 +68,15 @@ module _ {S : Type 0} (m : Stream S) (inner : Inner S) (modules : Bool) where
 
   program_of_goal : (c : Code) (s : State S) → OfGoal (program_by m inner modules c s)
   unfolding program_by
-  program_of_goal c s = by_kind (at m shebang_kind s) _ _ (by_line (line_of m inner (content (input m s)))) (rest_of_goal c s None s)
+  program_of_goal c s = by_kind (at m shebang_kind s) _ _ (by_line (line_of m inner (content (input m s)))) (rest_of_goal c (lo (input m s)) None s)
     where
       by_kind : (b : Bool) (x y : Result (Tree × State S) Fault) → OfGoal x → OfGoal y → OfGoal (cond b x y)
       by_kind true x y h k = h
       by_kind false x y h k = k
 
-      by_line : (o : Option (List ℕ)) → OfGoal (elim o [ None ↦ unexpected m s | Some l ↦ program_rest m inner modules c s (Some l) (past m s) ])
+      by_line : (o : Option (List ℕ)) → OfGoal (elim o [ None ↦ unexpected m s | Some l ↦ program_rest m inner modules c (lo (input m s)) (Some l) (past m s) ])
       by_line None = tt
-      by_line (Some l) = rest_of_goal c s (Some l) (past m s)
+      by_line (Some l) = rest_of_goal c (lo (input m s)) (Some l) (past m s)
 
   finished_of_goal : (t : Tree) (x : Result (Tree × State S) Fault) → OfGoal x → (x >>= finish m) ≡ Ok t → is_of_goal modules t ≡ true
   finished_of_goal t (Ok x) g e = subst (λ (u : Tree). is_of_goal modules u ≡ true) (finished m x t e) g

@@ -1,6 +1,6 @@
-//! Laws of the parser: what it reads of a source is what the grammar derives from the tokens that the source hands out, exactly; from the first token
-//! of a source on, of a list of tokens, and of a text through a lexer; and what its entries promise of a new parser is what the grammar says of these.
-//! The functions here are laws alone.
+//! Laws of the parser: what it reads of a source is what the grammar derives from the tokens that the source hands out, exactly;
+//! from the first token of a source on, of a list of tokens, and of a text through a lexer; and what its entries promise of a new
+//! parser is what the grammar says of these. The functions here are laws alone.
 #![tactic(auto)]
 
 ghost use Rattle.lex_step_laws.specs.States.{State};

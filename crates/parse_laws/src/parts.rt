@@ -1,6 +1,7 @@
 //! What entries for parts of programs answer, by the complete fronts of the tokens that a source hands out.
 
-ghost use Rattle.parse_laws.specs.Parts.{LexerPartsAnswer, ListPartsAnswer, NewListPartsAnswer, NewTextPartsAnswer, SourcePartsAnswer, TextPartsAnswer};
+ghost use Rattle.parse_laws.specs.Parts.{LexerPartsAnswer, ListPartsAnswer, NewListPartsAnswer};
+ghost use Rattle.parse_laws.specs.Parts.{NewTextPartsAnswer, SourcePartsAnswer, TextPartsAnswer};
 
 use crate::{Entered, Lexed, Listed};
 

@@ -91,13 +91,10 @@ among [] t s k a = absurd a
 among (x ∷ xs) t s k (inl a) = subst (λ (z : TokenKind). is_word (token_kind_number z) ≡ false) a.1 (not-true (is_word (token_kind_number x.1)) (and_parts (not (is_word (token_kind_number x.1))) (wordless xs) t).0)
 among (x ∷ xs) t s k (inr a) = among xs (and_parts (not (is_word (token_kind_number x.1))) (wordless xs) t).1 s k a
 
-all_wordless : wordless punctuators ≡ true
-unfolding wordless
-all_wordless = refl
-
 -- no punctuator is a word
 pub no_word : (text : List ℕ) (k : TokenKind) (rest : List ℕ) → IsPunctuator text k rest → is_word (token_kind_number k) ≡ false
-no_word text k rest h = among punctuators all_wordless h.1.0 k h.1.1
+unfolding wordless
+no_word text k rest h = among punctuators refl h.1.0 k h.1.1
 
 module _ (end : ℕ) (lb : Bool) (text rest : List ℕ) (h : bytes text ≤ end) where
   abbrev Told : SpecLexeme → Type 0

@@ -1,6 +1,7 @@
 -- Where a token of a lexer lies, and of which kind it is.
 use Rattle.std.proofs.Common.{◌≡◌, ◌≢◌, ◌<◌, inl, inr, ℕ, Bool, true, false, cond, List, [], length, Option, None, Some, refl, sym, ap, ◌∙◌, subst, true≢false}
 use Rattle.std.specs.Prelude.{◌==◌}
+use Rattle.std.proofs.lemmas.Option.{same_Some}
 use Rattle.base_token.specs.Kinds.{error_kind, template_kind}
 use Rattle.base_token.specs.TokenViews.{token_kind_number}
 use Rattle.base_token.specs.Tokens.{SpecToken, Spot, bare}
@@ -16,7 +17,7 @@ use Rattle.lex_source.specs.Machine.{told}
 use Rattle.grammar_spec.specs.Tokens.Input.{is_word, text_in}
 use Rattle.lex_step_laws.specs.States.{Last, Start, Slash, Characters, Fault, Other, State, again, behind, goal_of, is_start, last_after, place, shebang, stopped, template_goal}
 use Rattle.lex_step_laws.specs.Steps.{IsRead, IsPlain, IsFirst, IsOutside, IsGoing, IsStepBy, IsStepOf, IsStep}
-use Rattle.lex_step_laws.proofs.Going.{none_some, same_some}
+use Rattle.lex_step_laws.proofs.Going.{none_some}
 use Rattle.lex_step_laws.proofs.Tokens.{token_shorter}
 use Rattle.lex_step_laws.proofs.Trivia.{hashbang_shorter}
 use Rattle.lex_run_laws.proofs.Behind.{Behind, here, nothing_behind, follow_behind, hashbang_behind, lexeme_behind}
@@ -127,8 +128,8 @@ module _ (s new : State) (t : Spot) (text : List ℕ) where
   }))
 
   read_lands : (goal : LexicalGoal) (line_break : Bool) (from : List ℕ) → Behind text from → IsRead goal line_break from s (Some t) new → Lands s text t new
-  read_lands goal line_break from a (inl h) = token_lands line_break from h.0 h.1 (kinded from h.1 goal h.0 h.2) a (lexeme_behind goal from h.0 h.1 h.2) (shorter goal from h.0 h.1 h.2) (sym (same_some h.3)) h.4
-  read_lands goal line_break from a (inr (inl h)) = fault_lands line_break from a (sym (same_some h.2)) h.3
+  read_lands goal line_break from a (inl h) = token_lands line_break from h.0 h.1 (kinded from h.1 goal h.0 h.2) a (lexeme_behind goal from h.0 h.1 h.2) (shorter goal from h.0 h.1 h.2) (sym (same_Some _ _ h.3)) h.4
+  read_lands goal line_break from a (inr (inl h)) = fault_lands line_break from a (sym (same_Some _ _ h.2)) h.3
   read_lands goal line_break from a (inr (inr h)) = none_some (sym h.1)
 
 -- the characters from which a step reads: from a slash on that is read again, or those that are left
@@ -139,11 +140,11 @@ from_by s None = s.tokens.left
 module _ (s new : State) (t : Spot) where
   plain_lands : IsPlain s (Some t) new → Lands s s.tokens.left t new
   plain_lands (inl h) = read_lands s new t s.tokens.left Div h.0 h.1 (follow_behind (goal_of s.settings.ctx) (is_start s.tokens.last) s.tokens.left h.2.0 h.1 h.2.1.0) h.3
-  plain_lands (inr h) = fault_lands s new t s.tokens.left false h.0 (follow_behind (goal_of s.settings.ctx) (is_start s.tokens.last) s.tokens.left h.1.0 h.0 h.1.1) (sym (same_some h.2)) h.3
+  plain_lands (inr h) = fault_lands s new t s.tokens.left false h.0 (follow_behind (goal_of s.settings.ctx) (is_start s.tokens.last) s.tokens.left h.1.0 h.0 h.1.1) (sym (same_Some _ _ h.2)) h.3
 
   first_lands : IsFirst s (Some t) new → Lands s s.tokens.left t new
   first_lands (inl h) = token_lands s new t s.tokens.left false s.tokens.left (shebang h.0) h.1 (λ k. absurd (true≢false (sym k))) (here s.tokens.left s.tokens.left refl) (hashbang_behind s.tokens.left h.0 h.1 h.2)
-      (λ n. hashbang_shorter s.tokens.left h.0 h.1 h.2) (sym (same_some h.3)) h.4
+      (λ n. hashbang_shorter s.tokens.left h.0 h.1 h.2) (sym (same_Some _ _ h.3)) h.4
   first_lands (inr h) = plain_lands h.1
 
   outside_lands : (last : Last) → IsOutside last s (Some t) new → Lands s s.tokens.left t new

@@ -30,9 +30,9 @@ use Rattle.grammar_laws.proofs.slash.Fits.{not_lost, fits_on, low_there, usual_t
 use Rattle.lex_step_laws.specs.States.{Last, Start, Slash, Characters, Fault, Other, State, again, again_by, behind, goal_of, is_start, place, shebang, spot_at, template_goal, contexts_after, last_after}
 use Rattle.lex_step_laws.specs.Steps.{IsRead, IsPlain, IsOutside, IsGoing, IsStepBy, IsStepOf, IsStep}
 use Rattle.lex_step_laws.proofs.StepLemmas.{one_step}
-use Rattle.lex_step_laws.proofs.Steps.{always_steps}
 use Rattle.lex_step_laws.proofs.Trivia.{hashbang_or_not}
 use Rattle.ecma_lexer.specs.Machine.{step_of, lexer_machine}
+use Rattle.ecma_lexer.proofs.LookLemmas.{step_made}
 use Rattle.parse_state.specs.Cursors.{asked}
 use Rattle.parse_source_laws.specs.Sources.{is_slash}
 use Rattle.grammar_text_spec.specs.Tiled.{goal_at, whole, IsBefore, AreTiles, AfterHashbang, Tile}
@@ -74,10 +74,6 @@ regex_usual : (k g : ℕ) → k ≡ regex_kind → usual k g ≡ true → g ≡ 
 regex_usual k g r e = eqb-true g 1 (subst (λ (z : ℕ). usual z g ≡ true) r e)
 
 -- ---- steps, backwards
-
-step_made : (s : State) → IsStep s (step_of s).0 (step_of s).1
-unfolding step_of
-step_made s = (always_steps s).2
 
 made : (s : State) (out : Option Spot) → (step_of s).0 ≡ out → IsStep s out (step_of s).1
 made s out e = subst (λ (z : Option Spot). IsStep s z (step_of s).1) e (step_made s)

@@ -24,5 +24,5 @@ FitDeclared (Declared.Variables x) = fits_var_decl (λ p. p) x.value
 FitDeclared (Declared.Using x) = fits_using_decl (λ p. p) x.value
 
 -- what is iterated over, and the body (14.7.5)
-unfoldable pub over_by : {S : Type 0} → Stream S → Inner S → Code → ℕ → Read S (Tree × Tree)
+abbrev pub over_by : {S : Type 0} → Stream S → Inner S → Code → ℕ → Read S (Tree × Tree)
 over_by m inside c l s = inside.expr c l s >>= λ e. eat m right_paren_kind e.1 >>= λ r. sub_by m inside c false r >>= λ b. Ok ((e.0, b.0), b.1)

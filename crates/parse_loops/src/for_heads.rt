@@ -8,7 +8,6 @@ ghost use Rattle.tree_nodes.specs.View.{var_decl_kind_word, view_for_head, view_
 ghost use Rattle.grammar_spec.specs.Reader.Statements as reads;
 ghost use Rattle.parse_state.specs.Codes.{code_of};
 ghost use Rattle.parse_state.specs.Cursors.{stream_of};
-ghost use Rattle.parse_state.specs.States.{from};
 ghost use Rattle.parse_state.specs.Reads.{at_hand, Shorter};
 ghost use Rattle.parse_operands.specs.Rules.{ReadsBy};
 ghost use Rattle.parse_operands.specs.Operands.{tree_in};
@@ -118,7 +117,7 @@ pub fn head_rest<'a, I: Tokens<'a> + Drop, N: Nested<'a, I>>(
     requires declared { FitDeclared declared }
     ensures value { ReadsBy I.machine I.state (N.reads nested.now) p.old p.new result
         tree_in
-        (λ m r. reads.head_rest m r (code_of code) (from start.0) awaits (declared_of declared)
+        (λ m r. reads.head_rest m r (code_of code) start.0 awaits (declared_of declared)
         (view_declared declared)) }
     ensures holds { IfOk result (λ x. holds_stmt x.part.value) }
     ensures shorter { Shorter I.machine I.state p.old p.new result }
@@ -143,7 +142,7 @@ pub fn head_rest<'a, I: Tokens<'a> + Drop, N: Nested<'a, I>>(
 
 /// `var`, `let` or `const` in a head, and what follows.
 #[inline(never)]
-#[tactic(auto, using(parse_state::proofs::Marks::marks, parse_operands::proofs::Packs::packs), unfolding(grammar_spec::specs::Reader::Statements::for_variables))]
+#[tactic(auto, using(parse_operands::proofs::Packs::packs), unfolding(grammar_spec::specs::Reader::Statements::for_variables))]
 pub fn for_variables<'a, I: Tokens<'a> + Drop, N: Nested<'a, I>>(
     p: &mut Parser<'a, I>,
     nested: &N,
@@ -156,7 +155,7 @@ pub fn for_variables<'a, I: Tokens<'a> + Drop, N: Nested<'a, I>>(
     requires word { var_decl_kind_word word ≡ kind (at_hand I.machine I.state p.old) }
     requires some { kind (at_hand I.machine I.state p.old) ≢ 0 }
     ensures value { ReadsBy I.machine I.state (N.reads nested.now) p.old p.new result
-        tree_in (λ m r. reads.for_variables m r (code_of code) (from start.0) awaits) }
+        tree_in (λ m r. reads.for_variables m r (code_of code) start.0 awaits) }
     ensures holds { IfOk result (λ x. holds_stmt x.part.value) }
     ensures shorter { Shorter I.machine I.state p.old p.new result }
 {
@@ -169,7 +168,7 @@ pub fn for_variables<'a, I: Tokens<'a> + Drop, N: Nested<'a, I>>(
 
 /// `using` in a head, and what follows. Before it `await` may stand.
 #[inline(never)]
-#[tactic(auto, using(parse_state::proofs::Marks::marks, parse_operands::proofs::Packs::packs), unfolding(grammar_spec::specs::Reader::Statements::for_using))]
+#[tactic(auto, using(parse_operands::proofs::Packs::packs), unfolding(grammar_spec::specs::Reader::Statements::for_using))]
 pub fn for_using<'a, I: Tokens<'a> + Drop, N: Nested<'a, I>>(
     p: &mut Parser<'a, I>,
     nested: &N,
@@ -182,7 +181,7 @@ pub fn for_using<'a, I: Tokens<'a> + Drop, N: Nested<'a, I>>(
     requires ready { N.ready nested.now }
     ensures value { ReadsBy I.machine I.state (N.reads nested.now) p.old p.new result
         tree_in
-        (λ m r. reads.for_using m r (code_of code) (from start.0) awaits (from own.0) waits) }
+        (λ m r. reads.for_using m r (code_of code) start.0 awaits own.0 waits) }
     ensures holds { IfOk result (λ x. holds_stmt x.part.value) }
     ensures shorter { Shorter I.machine I.state p.old p.new result }
 {

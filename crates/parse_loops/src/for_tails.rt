@@ -6,7 +6,6 @@ ghost use Rattle.tree_nodes.specs.View.{view_for_head, view_var_decl_or_expr};
 ghost use Rattle.tree_spec.specs.Tree.{part_by};
 ghost use Rattle.grammar_spec.specs.Reader.Statements as reads;
 ghost use Rattle.parse_state.specs.Codes.{code_of};
-ghost use Rattle.parse_state.specs.States.{from};
 ghost use Rattle.parse_state.specs.Reads.{Shorter};
 ghost use Rattle.parse_operands.specs.Operands.{tree_of, tree_in};
 ghost use Rattle.parse_operands.specs.Rules.{ReadsBy};
@@ -45,7 +44,7 @@ pub fn clause<'a, I: Tokens<'a> + Drop, N: Nested<'a, I>>(
 
 /// From the first semicolon on.
 #[inline(never)]
-#[tactic(auto, using(parse_state::proofs::Marks::marks), unfolding(grammar_spec::specs::Reader::Statements::for_rest))]
+#[tactic(auto, unfolding(grammar_spec::specs::Reader::Statements::for_rest))]
 pub fn for_rest<'a, I: Tokens<'a> + Drop, N: Nested<'a, I>>(
     p: &mut Parser<'a, I>,
     nested: &N,
@@ -57,7 +56,7 @@ pub fn for_rest<'a, I: Tokens<'a> + Drop, N: Nested<'a, I>>(
     requires init { fits_held (λ x. fits_var_decl_or_expr (λ p. p) x) init }
     ensures value { ReadsBy I.machine I.state (N.reads nested.now) p.old p.new result
         tree_in
-        (λ m r. reads.for_rest m r (code_of code) (from start.0) (part_by (view_var_decl_or_expr inner) init)) }
+        (λ m r. reads.for_rest m r (code_of code) start.0 (part_by (view_var_decl_or_expr inner) init)) }
     ensures holds { IfOk result (λ x. holds_stmt x.part.value) }
     ensures shorter { Shorter I.machine I.state p.old p.new result }
 {
@@ -70,7 +69,6 @@ pub fn for_rest<'a, I: Tokens<'a> + Drop, N: Nested<'a, I>>(
 
 /// What is iterated over, and the body.
 #[inline(always)]
-#[tactic(auto, unfolding(crate::specs::Heads::over_by))]
 pub fn over<'a, I: Tokens<'a> + Drop, N: Nested<'a, I>>(
     p: &mut Parser<'a, I>,
     nested: &N,
@@ -91,7 +89,7 @@ pub fn over<'a, I: Tokens<'a> + Drop, N: Nested<'a, I>>(
 
 /// From `in` on.
 #[inline(never)]
-#[tactic(auto, using(parse_state::proofs::Marks::marks), unfolding(grammar_spec::specs::Reader::Statements::in_rest, grammar_spec::specs::Reader::Statements::over_rest, crate::specs::Heads::over_by))]
+#[tactic(auto, unfolding(grammar_spec::specs::Reader::Statements::in_rest, grammar_spec::specs::Reader::Statements::over_rest))]
 pub fn in_rest<'a, I: Tokens<'a> + Drop, N: Nested<'a, I>>(
     p: &mut Parser<'a, I>,
     nested: &N,
@@ -103,7 +101,7 @@ pub fn in_rest<'a, I: Tokens<'a> + Drop, N: Nested<'a, I>>(
     requires left { fits_for_head (λ p. p) left }
     ensures value { ReadsBy I.machine I.state (N.reads nested.now) p.old p.new result
         tree_in
-        (λ m r. reads.in_rest m r (code_of code) (from start.0) (view_for_head inner left)) }
+        (λ m r. reads.in_rest m r (code_of code) start.0 (view_for_head inner left)) }
     ensures holds { IfOk result (λ x. holds_stmt x.part.value) }
     ensures shorter { Shorter I.machine I.state p.old p.new result }
 {
@@ -114,7 +112,7 @@ pub fn in_rest<'a, I: Tokens<'a> + Drop, N: Nested<'a, I>>(
 
 /// From `of` on.
 #[inline(never)]
-#[tactic(auto, using(parse_state::proofs::Marks::marks), unfolding(grammar_spec::specs::Reader::Statements::of_rest, grammar_spec::specs::Reader::Statements::over_rest, crate::specs::Heads::over_by))]
+#[tactic(auto, unfolding(grammar_spec::specs::Reader::Statements::of_rest, grammar_spec::specs::Reader::Statements::over_rest))]
 pub fn of_rest<'a, I: Tokens<'a> + Drop, N: Nested<'a, I>>(
     p: &mut Parser<'a, I>,
     nested: &N,
@@ -127,7 +125,7 @@ pub fn of_rest<'a, I: Tokens<'a> + Drop, N: Nested<'a, I>>(
     requires left { fits_for_head (λ p. p) left }
     ensures value { ReadsBy I.machine I.state (N.reads nested.now) p.old p.new result
         tree_in
-        (λ m r. reads.of_rest m r (code_of code) (from start.0) awaits (view_for_head inner left)) }
+        (λ m r. reads.of_rest m r (code_of code) start.0 awaits (view_for_head inner left)) }
     ensures holds { IfOk result (λ x. holds_stmt x.part.value) }
     ensures shorter { Shorter I.machine I.state p.old p.new result }
 {

@@ -9,7 +9,7 @@ ghost use Rattle.grammar_spec.specs.Reader.Statements as reads;
 ghost use Rattle.parse_state.specs.Answers.{Gives, IsMemory};
 ghost use Rattle.parse_state.specs.Codes.{code_of};
 ghost use Rattle.parse_state.specs.Cursors.{stream_of};
-ghost use Rattle.parse_state.specs.States.{from, state_of};
+ghost use Rattle.parse_state.specs.States.{state_of};
 ghost use Rattle.parse_state.specs.Reads.{at_hand, Shorter};
 ghost use Rattle.parse_operands.specs.Operands.{tree_of, tree_in};
 ghost use Rattle.parse_operands.specs.Rules.{ReadsBy};
@@ -48,7 +48,6 @@ pub fn head<'a, I: Tokens<'a> + Drop>(p: &Parser<'a, I>, expr: Operand) -> Resul
 
 /// What follows the expression that heads a `for`. Some may not stand before `of`.
 #[inline(never)]
-#[tactic(auto, unfolding(crate::specs::Fors::for_target))]
 pub fn target<'a, I: Tokens<'a> + Drop, N: Nested<'a, I>>(
     p: &mut Parser<'a, I>,
     nested: &N,
@@ -60,7 +59,7 @@ pub fn target<'a, I: Tokens<'a> + Drop, N: Nested<'a, I>>(
 ) -> Result<StmtBox, Failure>
     requires ready { N.ready nested.now }
     ensures value { ReadsBy I.machine I.state (N.reads nested.now) p.old p.new result
-        tree_in (λ m r. for_target m r (code_of code) (from start.0) awaits barred (tree_of expr)) }
+        tree_in (λ m r. for_target m r (code_of code) start.0 awaits barred (tree_of expr)) }
     ensures holds { IfOk result (λ x. holds_stmt x.part.value) }
     ensures shorter { Shorter I.machine I.state p.old p.new result }
 {
@@ -99,7 +98,7 @@ fn is_barred<'a, I: Tokens<'a> + Drop>(p: &Parser<'a, I>, awaits: bool) -> Resul
 
 /// An expression that heads a `for`, and what follows.
 #[inline(always)]
-#[tactic(auto, unfolding(grammar_spec::specs::Reader::Statements::for_expression, grammar_spec::specs::Reader::Statements::for_expression_rest, crate::specs::Fors::for_target))]
+#[tactic(auto, unfolding(grammar_spec::specs::Reader::Statements::for_expression, grammar_spec::specs::Reader::Statements::for_expression_rest))]
 pub fn for_expression<'a, I: Tokens<'a> + Drop, N: Nested<'a, I>>(
     p: &mut Parser<'a, I>,
     nested: &N,
@@ -109,7 +108,7 @@ pub fn for_expression<'a, I: Tokens<'a> + Drop, N: Nested<'a, I>>(
 ) -> Result<StmtBox, Failure>
     requires ready { N.ready nested.now }
     ensures value { ReadsBy I.machine I.state (N.reads nested.now) p.old p.new result
-        tree_in (λ m r. reads.for_expression m r (code_of code) (from start.0) awaits) }
+        tree_in (λ m r. reads.for_expression m r (code_of code) start.0 awaits) }
     ensures holds { IfOk result (λ x. holds_stmt x.part.value) }
     ensures shorter { Shorter I.machine I.state p.old p.new result }
 {
@@ -169,7 +168,7 @@ fn heads_await_using<'a, I: Tokens<'a> + Drop, N: Nested<'a, I>>(
 
 /// The head of a `for` that begins with `using`, or with an expression.
 #[inline(always)]
-#[tactic(auto, using(parse_state::proofs::Marks::marks, crate::proofs::Starts::starts), unfolding(crate::specs::Fors::using_head))]
+#[tactic(auto, unfolding(crate::specs::Fors::using_head))]
 pub fn using_head<'a, I: Tokens<'a> + Drop, N: Nested<'a, I>>(
     p: &mut Parser<'a, I>,
     nested: &N,
@@ -179,7 +178,7 @@ pub fn using_head<'a, I: Tokens<'a> + Drop, N: Nested<'a, I>>(
 ) -> Result<StmtBox, Failure>
     requires ready { N.ready nested.now }
     ensures value { ReadsBy I.machine I.state (N.reads nested.now) p.old p.new result
-        tree_in (λ m r. using_head m r (code_of code) (from start.0) awaits) }
+        tree_in (λ m r. using_head m r (code_of code) start.0 awaits) }
     ensures holds { IfOk result (λ x. holds_stmt x.part.value) }
     ensures shorter { Shorter I.machine I.state p.old p.new result }
 {
@@ -206,7 +205,7 @@ pub fn for_head<'a, I: Tokens<'a> + Drop, N: Nested<'a, I>>(
 ) -> Result<StmtBox, Failure>
     requires ready { N.ready nested.now }
     ensures value { ReadsBy I.machine I.state (N.reads nested.now) p.old p.new result
-        tree_in (λ m r. reads.for_head m r (code_of code) (from start.0) awaits) }
+        tree_in (λ m r. reads.for_head m r (code_of code) start.0 awaits) }
     ensures holds { IfOk result (λ x. holds_stmt x.part.value) }
     ensures shorter { Shorter I.machine I.state p.old p.new result }
 {
@@ -230,7 +229,7 @@ pub fn for_head<'a, I: Tokens<'a> + Drop, N: Nested<'a, I>>(
 
 /// `for`.
 #[inline(never)]
-#[tactic(auto, using(parse_state::proofs::Marks::marks, crate::proofs::Starts::starts), unfolding(grammar_spec::specs::Reader::Statements::for_by))]
+#[tactic(auto, unfolding(grammar_spec::specs::Reader::Statements::for_by))]
 pub fn for_loop<'a, I: Tokens<'a> + Drop, N: Nested<'a, I>>(
     p: &mut Parser<'a, I>,
     nested: &N,

@@ -15,7 +15,7 @@ use tree_nodes::StmtBox;
 
 /// `while`.
 #[inline(never)]
-#[tactic(auto, using(parse_state::proofs::Marks::marks), unfolding(grammar_spec::specs::Reader::Statements::while_by))]
+#[tactic(auto, unfolding(grammar_spec::specs::Reader::Statements::while_by))]
 pub fn while_loop<'a, I: Tokens<'a> + Drop, N: Nested<'a, I>>(
     p: &mut Parser<'a, I>,
     nested: &N,
@@ -36,7 +36,7 @@ pub fn while_loop<'a, I: Tokens<'a> + Drop, N: Nested<'a, I>>(
 
 /// `do`, with a semicolon behind it or with none.
 #[inline(never)]
-#[tactic(auto, using(parse_state::proofs::Marks::marks), unfolding(grammar_spec::specs::Reader::Statements::do_by))]
+#[tactic(auto, unfolding(grammar_spec::specs::Reader::Statements::do_by))]
 pub fn do_loop<'a, I: Tokens<'a> + Drop, N: Nested<'a, I>>(
     p: &mut Parser<'a, I>,
     nested: &N,

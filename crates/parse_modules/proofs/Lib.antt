@@ -1,4 +1,3 @@
 pub mod Lines
 pub mod Attributes
-pub mod Starts
 pub mod Exported

@@ -5,7 +5,6 @@ ghost use Rattle.tree_nodes.specs.Placed.{inner};
 ghost use Rattle.tree_nodes.specs.View.{view_module_decl};
 ghost use Rattle.grammar_spec.specs.Reader.Modules as reads;
 ghost use Rattle.parse_state.specs.Codes.{code_of};
-ghost use Rattle.parse_state.specs.States.{from};
 ghost use Rattle.parse_state.specs.Reads.{Shorter};
 ghost use Rattle.parse_operands.specs.Rules.{ReadsBy};
 ghost use Rattle.parse_modules.specs.Steps.{after_by, decl_by, listed_by};
@@ -22,7 +21,7 @@ use tree_nodes::{ExportDecl, ModuleDecl};
 
 /// A declaration that is exported.
 #[inline(never)]
-#[tactic(auto, using(parse_state::proofs::Marks::marks), unfolding(crate::specs::Steps::decl_by))]
+#[tactic(auto, unfolding(crate::specs::Steps::decl_by))]
 pub fn export_decl<'a, I: Tokens<'a> + Drop, N: Nested<'a, I>>(
     p: &mut Parser<'a, I>,
     nested: &N,
@@ -31,7 +30,7 @@ pub fn export_decl<'a, I: Tokens<'a> + Drop, N: Nested<'a, I>>(
 ) -> Result<ModuleDecl, Failure>
     requires ready { N.ready nested.now }
     ensures value { ReadsBy I.machine I.state (N.reads nested.now) p.old p.new result
-        (view_module_decl inner) (λ m r. decl_by m r (code_of code) (from start.0)) }
+        (view_module_decl inner) (λ m r. decl_by m r (code_of code) start.0) }
     ensures fits { IfOk result (λ x. fits_module_decl (λ p. p) x) }
     ensures shorter { Shorter I.machine I.state p.old p.new result }
 {
@@ -56,7 +55,7 @@ pub fn export_listed<'a, I: Tokens<'a> + Drop, N: Nested<'a, I>>(
 ) -> Result<ModuleDecl, Failure>
     requires ready { N.ready nested.now }
     ensures value { ReadsBy I.machine I.state (N.reads nested.now) p.old p.new result
-        (view_module_decl inner) (λ m r. listed_by m r (code_of code) (from start.0)) }
+        (view_module_decl inner) (λ m r. listed_by m r (code_of code) start.0) }
     ensures fits { IfOk result (λ x. fits_module_decl (λ p. p) x) }
     ensures shorter { Shorter I.machine I.state p.old p.new result }
 {
@@ -84,7 +83,7 @@ pub fn after_export<'a, I: Tokens<'a> + Drop, N: Nested<'a, I>>(
 ) -> Result<ModuleDecl, Failure>
     requires ready { N.ready nested.now }
     ensures value { ReadsBy I.machine I.state (N.reads nested.now) p.old p.new result
-        (view_module_decl inner) (λ m r. after_by m r (code_of code) (from start.0)) }
+        (view_module_decl inner) (λ m r. after_by m r (code_of code) start.0) }
     ensures fits { IfOk result (λ x. fits_module_decl (λ p. p) x) }
     ensures shorter { Shorter I.machine I.state p.old p.new result }
 {
@@ -97,7 +96,7 @@ pub fn after_export<'a, I: Tokens<'a> + Drop, N: Nested<'a, I>>(
 }
 
 /// An export.
-#[tactic(auto, using(crate::proofs::Exported::starts))]
+#[tactic(auto, using(crate::proofs::Exported::export_is))]
 pub fn export<'a, I: Tokens<'a> + Drop, N: Nested<'a, I>>(
     p: &mut Parser<'a, I>,
     nested: &N,

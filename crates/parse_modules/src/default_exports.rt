@@ -5,7 +5,6 @@ ghost use Rattle.tree_nodes.specs.Placed.{inner};
 ghost use Rattle.tree_nodes.specs.View.{view_module_decl};
 ghost use Rattle.grammar_spec.specs.Reader.Modules as reads;
 ghost use Rattle.parse_state.specs.Codes.{code_of};
-ghost use Rattle.parse_state.specs.States.{from};
 ghost use Rattle.parse_state.specs.Reads.{Shorter};
 ghost use Rattle.parse_operands.specs.Rules.{ReadsBy};
 ghost use Rattle.parse_modules.specs.Steps.{default_expr_by, default_fn_by, default_other_by};
@@ -21,7 +20,6 @@ use tree_nodes::{DefaultDecl, ExportDefaultDecl, ExportDefaultExpr, ModuleDecl};
 
 /// A function that is the default export, which begins at its own start.
 #[inline(never)]
-#[tactic(auto, using(parse_state::proofs::Marks::marks), unfolding(crate::specs::Steps::default_fn_by))]
 pub fn default_fn<'a, I: Tokens<'a> + Drop, N: Nested<'a, I>>(
     p: &mut Parser<'a, I>,
     nested: &N,
@@ -33,7 +31,7 @@ pub fn default_fn<'a, I: Tokens<'a> + Drop, N: Nested<'a, I>>(
     requires ready { N.ready nested.now }
     ensures value { ReadsBy I.machine I.state (N.reads nested.now) p.old p.new result
         (view_module_decl inner)
-        (λ m r. default_fn_by m r (code_of code) (from start.0) (from begin.0) is_async) }
+        (λ m r. default_fn_by m r (code_of code) start.0 begin.0 is_async) }
     ensures fits { IfOk result (λ x. fits_module_decl (λ p. p) x) }
     ensures shorter { Shorter I.machine I.state p.old p.new result }
 {
@@ -46,7 +44,6 @@ pub fn default_fn<'a, I: Tokens<'a> + Drop, N: Nested<'a, I>>(
 
 /// An expression that is the default export.
 #[inline(never)]
-#[tactic(auto, using(parse_state::proofs::Marks::marks), unfolding(crate::specs::Steps::default_expr_by))]
 pub fn default_expr<'a, I: Tokens<'a> + Drop, N: Nested<'a, I>>(
     p: &mut Parser<'a, I>,
     nested: &N,
@@ -55,7 +52,7 @@ pub fn default_expr<'a, I: Tokens<'a> + Drop, N: Nested<'a, I>>(
 ) -> Result<ModuleDecl, Failure>
     requires ready { N.ready nested.now }
     ensures value { ReadsBy I.machine I.state (N.reads nested.now) p.old p.new result
-        (view_module_decl inner) (λ m r. default_expr_by m r (code_of code) (from start.0)) }
+        (view_module_decl inner) (λ m r. default_expr_by m r (code_of code) start.0) }
     ensures fits { IfOk result (λ x. fits_module_decl (λ p. p) x) }
     ensures shorter { Shorter I.machine I.state p.old p.new result }
 {
@@ -69,7 +66,6 @@ pub fn default_expr<'a, I: Tokens<'a> + Drop, N: Nested<'a, I>>(
 
 /// A class or an expression that is the default export.
 #[inline(never)]
-#[tactic(auto, using(parse_state::proofs::Marks::marks), unfolding(crate::specs::Steps::default_other_by))]
 pub fn default_other<'a, I: Tokens<'a> + Drop, N: Nested<'a, I>>(
     p: &mut Parser<'a, I>,
     nested: &N,
@@ -78,7 +74,7 @@ pub fn default_other<'a, I: Tokens<'a> + Drop, N: Nested<'a, I>>(
 ) -> Result<ModuleDecl, Failure>
     requires ready { N.ready nested.now }
     ensures value { ReadsBy I.machine I.state (N.reads nested.now) p.old p.new result
-        (view_module_decl inner) (λ m r. default_other_by m r (code_of code) (from start.0)) }
+        (view_module_decl inner) (λ m r. default_other_by m r (code_of code) start.0) }
     ensures fits { IfOk result (λ x. fits_module_decl (λ p. p) x) }
     ensures shorter { Shorter I.machine I.state p.old p.new result }
 {
@@ -94,7 +90,7 @@ pub fn default_other<'a, I: Tokens<'a> + Drop, N: Nested<'a, I>>(
 
 /// The default export, behind its words.
 #[inline(never)]
-#[tactic(auto, using(parse_state::proofs::Marks::marks, crate::proofs::Exported::starts), unfolding(grammar_spec::specs::Reader::Modules::export_default, crate::specs::Steps::default_fn_by, crate::specs::Steps::default_other_by, crate::specs::Steps::default_expr_by))]
+#[tactic(auto, unfolding(grammar_spec::specs::Reader::Modules::export_default))]
 pub fn export_default<'a, I: Tokens<'a> + Drop, N: Nested<'a, I>>(
     p: &mut Parser<'a, I>,
     nested: &N,
@@ -103,7 +99,7 @@ pub fn export_default<'a, I: Tokens<'a> + Drop, N: Nested<'a, I>>(
 ) -> Result<ModuleDecl, Failure>
     requires ready { N.ready nested.now }
     ensures value { ReadsBy I.machine I.state (N.reads nested.now) p.old p.new result
-        (view_module_decl inner) (λ m r. reads.export_default m r (code_of code) (from start.0)) }
+        (view_module_decl inner) (λ m r. reads.export_default m r (code_of code) start.0) }
     ensures fits { IfOk result (λ x. fits_module_decl (λ p. p) x) }
     ensures shorter { Shorter I.machine I.state p.old p.new result }
 {

@@ -6,7 +6,6 @@ ghost use Rattle.tree_nodes.specs.View.{view_export_specifier, view_module_decl}
 ghost use Rattle.grammar_spec.specs.Reader.Modules as reads;
 ghost use Rattle.parse_state.specs.Answers.{going_on};
 ghost use Rattle.parse_state.specs.Codes.{code_of};
-ghost use Rattle.parse_state.specs.States.{from};
 ghost use Rattle.parse_state.specs.Reads.{Shorter};
 ghost use Rattle.parse_operands.specs.Rules.{ReadsBy};
 ghost use Rattle.parse_modules.specs.Steps.{namespace_by};
@@ -23,7 +22,7 @@ use tree_nodes::{
 
 /// In braces: a name, and perhaps `as` another.
 #[inline(never)]
-#[tactic(auto, using(parse_state::proofs::Marks::marks), unfolding(grammar_spec::specs::Reader::Modules::named_export_item))]
+#[tactic(auto, unfolding(grammar_spec::specs::Reader::Modules::named_export_item))]
 pub fn named_export<'a, I: Tokens<'a> + Drop, N: Nested<'a, I>>(
     p: &mut Parser<'a, I>,
     nested: &N,
@@ -50,7 +49,7 @@ pub fn named_export<'a, I: Tokens<'a> + Drop, N: Nested<'a, I>>(
 
 /// One more name in braces, or their end. Whether another may follow.
 #[inline(never)]
-#[tactic(auto, using(parse_state::proofs::Marks::marks), unfolding(grammar_spec::specs::Reader::Modules::specifier_step))]
+#[tactic(auto, unfolding(grammar_spec::specs::Reader::Modules::specifier_step))]
 pub fn export_turn<'a, I: Tokens<'a> + Drop, N: Nested<'a, I>>(
     p: &mut Parser<'a, I>,
     nested: &N,
@@ -94,7 +93,7 @@ pub fn named_exports<'a, I: Tokens<'a> + Drop, N: Nested<'a, I>>(
 
 /// What another module exports, under one name.
 #[inline(never)]
-#[tactic(auto, using(parse_state::proofs::Marks::marks), unfolding(crate::specs::Steps::namespace_by))]
+#[tactic(auto, unfolding(crate::specs::Steps::namespace_by))]
 pub fn export_namespace<'a, I: Tokens<'a> + Drop, N: Nested<'a, I>>(
     p: &mut Parser<'a, I>,
     nested: &N,
@@ -105,7 +104,7 @@ pub fn export_namespace<'a, I: Tokens<'a> + Drop, N: Nested<'a, I>>(
     requires ready { N.ready nested.now }
     ensures value { ReadsBy I.machine I.state (N.reads nested.now) p.old p.new result
         (view_module_decl inner)
-        (λ m r. namespace_by m r (code_of code) (from start.0) (from star.0)) }
+        (λ m r. namespace_by m r (code_of code) start.0 star.0) }
     ensures fits { IfOk result (λ x. fits_module_decl (λ p. p) x) }
     ensures shorter { Shorter I.machine I.state p.old p.new result }
 {
@@ -126,7 +125,7 @@ pub fn export_namespace<'a, I: Tokens<'a> + Drop, N: Nested<'a, I>>(
 
 /// `*`: what another module exports, under its names or under one.
 #[inline(never)]
-#[tactic(auto, using(parse_state::proofs::Marks::marks), unfolding(grammar_spec::specs::Reader::Modules::export_star, crate::specs::Steps::namespace_by))]
+#[tactic(auto, unfolding(grammar_spec::specs::Reader::Modules::export_star, crate::specs::Steps::namespace_by))]
 pub fn export_star<'a, I: Tokens<'a> + Drop, N: Nested<'a, I>>(
     p: &mut Parser<'a, I>,
     nested: &N,
@@ -135,7 +134,7 @@ pub fn export_star<'a, I: Tokens<'a> + Drop, N: Nested<'a, I>>(
 ) -> Result<ModuleDecl, Failure>
     requires ready { N.ready nested.now }
     ensures value { ReadsBy I.machine I.state (N.reads nested.now) p.old p.new result
-        (view_module_decl inner) (λ m r. reads.export_star m r (code_of code) (from start.0)) }
+        (view_module_decl inner) (λ m r. reads.export_star m r (code_of code) start.0) }
     ensures fits { IfOk result (λ x. fits_module_decl (λ p. p) x) }
     ensures shorter { Shorter I.machine I.state p.old p.new result }
 {
@@ -155,7 +154,7 @@ pub fn export_star<'a, I: Tokens<'a> + Drop, N: Nested<'a, I>>(
 
 /// Names in braces, of this module or another.
 #[inline(never)]
-#[tactic(auto, using(parse_state::proofs::Marks::marks, parse_operands::proofs::Packs::packs), unfolding(grammar_spec::specs::Reader::Modules::export_list))]
+#[tactic(auto, using(parse_operands::proofs::Packs::packs), unfolding(grammar_spec::specs::Reader::Modules::export_list))]
 pub fn export_list<'a, I: Tokens<'a> + Drop, N: Nested<'a, I>>(
     p: &mut Parser<'a, I>,
     nested: &N,
@@ -164,7 +163,7 @@ pub fn export_list<'a, I: Tokens<'a> + Drop, N: Nested<'a, I>>(
 ) -> Result<ModuleDecl, Failure>
     requires ready { N.ready nested.now }
     ensures value { ReadsBy I.machine I.state (N.reads nested.now) p.old p.new result
-        (view_module_decl inner) (λ m r. reads.export_list m r (code_of code) (from start.0)) }
+        (view_module_decl inner) (λ m r. reads.export_list m r (code_of code) start.0) }
     ensures fits { IfOk result (λ x. fits_module_decl (λ p. p) x) }
     ensures shorter { Shorter I.machine I.state p.old p.new result }
 {

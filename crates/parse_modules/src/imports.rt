@@ -9,7 +9,7 @@ ghost use Rattle.grammar_spec.specs.Reader.Modules as reads;
 ghost use Rattle.parse_state.specs.Answers.{going_on, IsMemory};
 ghost use Rattle.parse_state.specs.Codes.{code_of};
 ghost use Rattle.parse_state.specs.Cursors.{stream_of};
-ghost use Rattle.parse_state.specs.States.{from, state_of};
+ghost use Rattle.parse_state.specs.States.{state_of};
 ghost use Rattle.parse_state.specs.Reads.{Shorter};
 ghost use Rattle.parse_operands.specs.Rules.{ReadsBy};
 ghost use Rattle.parse_modules.specs.Firsts.{first_of};
@@ -25,7 +25,7 @@ use tree_nodes::{
 
 /// A name that can't be bound, `as` one that is.
 #[inline(never)]
-#[tactic(auto, using(parse_state::proofs::Marks::marks), unfolding(grammar_spec::specs::Reader::Modules::named_import, grammar_spec::specs::Reader::Modules::local_by, grammar_spec::specs::Reader::Source::name, grammar_spec::specs::Reader::Source::eat_word))]
+#[tactic(auto, unfolding(grammar_spec::specs::Reader::Modules::named_import, grammar_spec::specs::Reader::Modules::local_by, grammar_spec::specs::Reader::Source::name, grammar_spec::specs::Reader::Source::eat_word))]
 pub fn renamed_import<'a, I: Tokens<'a> + Drop, N: Nested<'a, I>>(
     p: &mut Parser<'a, I>,
     nested: &N,
@@ -49,7 +49,7 @@ pub fn renamed_import<'a, I: Tokens<'a> + Drop, N: Nested<'a, I>>(
 
 /// A name that can be bound, and perhaps `as` another.
 #[inline(never)]
-#[tactic(auto, using(parse_state::proofs::Marks::marks), unfolding(grammar_spec::specs::Reader::Modules::named_import, grammar_spec::specs::Reader::Modules::export_name_by, grammar_spec::specs::Reader::Modules::local_by, grammar_spec::specs::Reader::Source::name, grammar_spec::specs::Reader::Source::any_word))]
+#[tactic(auto, unfolding(grammar_spec::specs::Reader::Modules::named_import, grammar_spec::specs::Reader::Modules::export_name_by, grammar_spec::specs::Reader::Modules::local_by, grammar_spec::specs::Reader::Source::name, grammar_spec::specs::Reader::Source::any_word))]
 pub fn bound_import<'a, I: Tokens<'a> + Drop, N: Nested<'a, I>>(
     p: &mut Parser<'a, I>,
     nested: &N,
@@ -99,7 +99,7 @@ pub fn named_import<'a, I: Tokens<'a> + Drop, N: Nested<'a, I>>(
 
 /// One more name in braces, or their end. Whether another may follow.
 #[inline(never)]
-#[tactic(auto, using(parse_state::proofs::Marks::marks), unfolding(grammar_spec::specs::Reader::Modules::specifier_step))]
+#[tactic(auto, unfolding(grammar_spec::specs::Reader::Modules::specifier_step))]
 pub fn import_turn<'a, I: Tokens<'a> + Drop, N: Nested<'a, I>>(
     p: &mut Parser<'a, I>,
     nested: &N,
@@ -143,7 +143,7 @@ pub fn named_imports<'a, I: Tokens<'a> + Drop, N: Nested<'a, I>>(
 
 /// `* as` a name.
 #[inline(never)]
-#[tactic(auto, using(parse_state::proofs::Marks::marks), unfolding(grammar_spec::specs::Reader::Modules::star_import))]
+#[tactic(auto, unfolding(grammar_spec::specs::Reader::Modules::star_import))]
 pub fn star_import<'a, I: Tokens<'a> + Drop, N: Nested<'a, I>>(
     p: &mut Parser<'a, I>,
     nested: &N,
@@ -165,7 +165,7 @@ pub fn star_import<'a, I: Tokens<'a> + Drop, N: Nested<'a, I>>(
 
 /// `from` and a module's name.
 #[inline(never)]
-#[tactic(auto, using(parse_state::proofs::Marks::marks, parse_operands::proofs::Packs::packs), unfolding(grammar_spec::specs::Reader::Modules::import_end))]
+#[tactic(auto, using(parse_operands::proofs::Packs::packs), unfolding(grammar_spec::specs::Reader::Modules::import_end))]
 pub fn import_end<'a, I: Tokens<'a> + Drop, N: Nested<'a, I>>(
     p: &mut Parser<'a, I>,
     nested: &N,
@@ -176,7 +176,7 @@ pub fn import_end<'a, I: Tokens<'a> + Drop, N: Nested<'a, I>>(
     requires ready { N.ready nested.now }
     ensures value { ReadsBy I.machine I.state (N.reads nested.now) p.old p.new result
         (view_import_decl inner)
-        (λ m r. reads.import_end m r (code_of code) (from start.0) (map view_import_specifier specifiers.items)) }
+        (λ m r. reads.import_end m r (code_of code) start.0 (map view_import_specifier specifiers.items)) }
     ensures fits { IfOk result (λ x. fits_import_decl (λ p. p) x) }
     ensures shorter { Shorter I.machine I.state p.old p.new result }
 {
@@ -192,7 +192,7 @@ pub fn import_end<'a, I: Tokens<'a> + Drop, N: Nested<'a, I>>(
 
 /// A star, after what stands before it.
 #[inline(never)]
-#[tactic(auto, using(parse_state::proofs::Marks::marks), unfolding(grammar_spec::specs::Reader::Modules::import_rest))]
+#[tactic(auto, unfolding(grammar_spec::specs::Reader::Modules::import_rest))]
 pub fn import_star<'a, I: Tokens<'a> + Drop, N: Nested<'a, I>>(
     p: &mut Parser<'a, I>,
     nested: &N,
@@ -204,7 +204,7 @@ pub fn import_star<'a, I: Tokens<'a> + Drop, N: Nested<'a, I>>(
     requires star { spec.at (stream_of I.machine) mul_kind (state_of I.state p.old) ≡ true }
     ensures value { ReadsBy I.machine I.state (N.reads nested.now) p.old p.new result
         (view_import_decl inner)
-        (λ m r. reads.import_rest m r (code_of code) (from start.0) (first_of first)) }
+        (λ m r. reads.import_rest m r (code_of code) start.0 (first_of first)) }
     ensures fits { IfOk result (λ x. fits_import_decl (λ p. p) x) }
     ensures shorter { Shorter I.machine I.state p.old p.new result }
 {
@@ -234,7 +234,7 @@ pub fn in_front(
 
 /// A star or a list, after what stands before them.
 #[inline(never)]
-#[tactic(auto, using(parse_state::proofs::Marks::marks), unfolding(grammar_spec::specs::Reader::Modules::import_rest))]
+#[tactic(auto, unfolding(grammar_spec::specs::Reader::Modules::import_rest))]
 pub fn import_rest<'a, I: Tokens<'a> + Drop, N: Nested<'a, I>>(
     p: &mut Parser<'a, I>,
     nested: &N,
@@ -245,7 +245,7 @@ pub fn import_rest<'a, I: Tokens<'a> + Drop, N: Nested<'a, I>>(
     requires ready { N.ready nested.now }
     ensures value { ReadsBy I.machine I.state (N.reads nested.now) p.old p.new result
         (view_import_decl inner)
-        (λ m r. reads.import_rest m r (code_of code) (from start.0) (first_of first)) }
+        (λ m r. reads.import_rest m r (code_of code) start.0 (first_of first)) }
     ensures fits { IfOk result (λ x. fits_import_decl (λ p. p) x) }
     ensures shorter { Shorter I.machine I.state p.old p.new result }
 {
@@ -259,7 +259,7 @@ pub fn import_rest<'a, I: Tokens<'a> + Drop, N: Nested<'a, I>>(
 
 /// A name for the default export, and perhaps more.
 #[inline(never)]
-#[tactic(auto, using(parse_state::proofs::Marks::marks), unfolding(grammar_spec::specs::Reader::Modules::import_default))]
+#[tactic(auto, unfolding(grammar_spec::specs::Reader::Modules::import_default))]
 pub fn import_default<'a, I: Tokens<'a> + Drop, N: Nested<'a, I>>(
     p: &mut Parser<'a, I>,
     nested: &N,
@@ -268,7 +268,7 @@ pub fn import_default<'a, I: Tokens<'a> + Drop, N: Nested<'a, I>>(
 ) -> Result<ImportDecl, Failure>
     requires ready { N.ready nested.now }
     ensures value { ReadsBy I.machine I.state (N.reads nested.now) p.old p.new result
-        (view_import_decl inner) (λ m r. reads.import_default m r (code_of code) (from start.0)) }
+        (view_import_decl inner) (λ m r. reads.import_default m r (code_of code) start.0) }
     ensures fits { IfOk result (λ x. fits_import_decl (λ p. p) x) }
     ensures shorter { Shorter I.machine I.state p.old p.new result }
 {
@@ -285,7 +285,7 @@ pub fn import_default<'a, I: Tokens<'a> + Drop, N: Nested<'a, I>>(
 
 /// An import.
 #[inline(never)]
-#[tactic(auto, using(parse_state::proofs::Marks::marks, crate::proofs::Starts::starts), unfolding(grammar_spec::specs::Reader::Modules::import_decl_by))]
+#[tactic(auto, unfolding(grammar_spec::specs::Reader::Modules::import_decl_by))]
 pub fn import_decl<'a, I: Tokens<'a> + Drop, N: Nested<'a, I>>(
     p: &mut Parser<'a, I>,
     nested: &N,

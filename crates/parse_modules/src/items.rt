@@ -34,11 +34,11 @@ pub struct ItemsSoFar {
 }
 
 /// Whether no token is to come.
-#[tactic(auto, unfolding(parse_state::specs::Cursors::stream_of))]
+#[tactic(auto, using(parse_state::proofs::Firsts::firsts), unfolding(parse_state::specs::Cursors::stream_of))]
 pub fn ended<'a, I: Tokens<'a> + Drop>(p: &Parser<'a, I>) -> bool
     ensures { result ≡ spec.ended (stream_of I.machine) (state_of I.state p.now) }
 {
-    p.ahead.token.is_none()
+    p.ahead.is_none()
 }
 
 /// Whether `import` starts a declaration here, but no call and no `import.meta`.

@@ -27,7 +27,7 @@ pub struct Sourced {
 
 /// A string.
 #[inline(never)]
-#[tactic(auto, using(parse_state::proofs::Marks::marks), unfolding(grammar_spec::specs::Reader::Modules::string_by, grammar_spec::specs::Reader::Expressions::literal_by, parse_state::specs::Cursors::stream_of))]
+#[tactic(auto, unfolding(grammar_spec::specs::Reader::Modules::string_by, grammar_spec::specs::Reader::Expressions::literal_by, parse_state::specs::Cursors::stream_of))]
 pub fn string<'a, I: Tokens<'a> + Drop, N: Nested<'a, I>>(
     p: &mut Parser<'a, I>,
     _nested: &N,
@@ -52,7 +52,7 @@ pub fn string<'a, I: Tokens<'a> + Drop, N: Nested<'a, I>>(
 
 /// The name of an export: any word, or a string.
 #[inline(never)]
-#[tactic(auto, using(parse_state::proofs::Marks::marks), unfolding(grammar_spec::specs::Reader::Modules::export_name_by, grammar_spec::specs::Reader::Modules::string_by))]
+#[tactic(auto, unfolding(grammar_spec::specs::Reader::Modules::export_name_by, grammar_spec::specs::Reader::Modules::string_by))]
 pub fn export_name<'a, I: Tokens<'a> + Drop, N: Nested<'a, I>>(
     p: &mut Parser<'a, I>,
     nested: &N,
@@ -71,7 +71,7 @@ pub fn export_name<'a, I: Tokens<'a> + Drop, N: Nested<'a, I>>(
 }
 
 /// A name that is bound here.
-#[tactic(auto, using(parse_state::proofs::Marks::marks), unfolding(grammar_spec::specs::Reader::Modules::local_by))]
+#[tactic(auto, unfolding(grammar_spec::specs::Reader::Modules::local_by))]
 pub fn local<'a, I: Tokens<'a> + Drop, N: Nested<'a, I>>(
     p: &mut Parser<'a, I>,
     _nested: &N,
@@ -112,7 +112,7 @@ pub fn attributes<'a, I: Tokens<'a> + Drop, N: Nested<'a, I>>(
 
 /// A module's name, its attributes where these are on, and its end.
 #[inline(never)]
-#[tactic(auto, using(parse_state::proofs::Marks::marks), unfolding(grammar_spec::specs::Reader::Modules::source_by))]
+#[tactic(auto, unfolding(grammar_spec::specs::Reader::Modules::source_by))]
 pub fn source<'a, I: Tokens<'a> + Drop, N: Nested<'a, I>>(
     p: &mut Parser<'a, I>,
     nested: &N,

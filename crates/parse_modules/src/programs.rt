@@ -7,7 +7,6 @@ ghost use Rattle.tree_nodes.specs.View.{view_module, view_script};
 ghost use Rattle.grammar_spec.specs.Reader.Modules as reads;
 ghost use Rattle.parse_state.specs.Codes.{code_of};
 ghost use Rattle.parse_state.specs.Cursors.{stream_of};
-ghost use Rattle.parse_state.specs.States.{from};
 ghost use Rattle.parse_state.specs.Reads.{at_hand, NotLonger};
 ghost use Rattle.parse_operands.specs.Rules.{ReadsBy};
 ghost use Rattle.parse_modules.specs.Items.{items_by};
@@ -22,7 +21,7 @@ use tree_nodes::{Module, Script};
 
 /// A script, after its hashbang.
 #[inline(never)]
-#[tactic(auto, using(parse_state::proofs::Marks::marks, parse_operands::proofs::Packs::packs), unfolding(grammar_spec::specs::Reader::Modules::program_rest, crate::specs::Items::items_by))]
+#[tactic(auto, using(parse_operands::proofs::Packs::packs), unfolding(grammar_spec::specs::Reader::Modules::program_rest, crate::specs::Items::items_by))]
 pub fn script_rest<'a, I: Tokens<'a> + Drop, N: Nested<'a, I>>(
     p: &mut Parser<'a, I>,
     nested: &N,
@@ -33,7 +32,7 @@ pub fn script_rest<'a, I: Tokens<'a> + Drop, N: Nested<'a, I>>(
     requires ready { N.ready nested.now }
     ensures value { ReadsBy I.machine I.state (N.reads nested.now) p.old p.new result
         (view_script inner)
-        (λ m r. reads.program_rest m r false (code_of code) (from start.0) shebang) }
+        (λ m r. reads.program_rest m r false (code_of code) start.0 shebang) }
     ensures fits { IfOk result (λ x. fits_script (λ p. p) x) }
     ensures not_longer { NotLonger I.machine I.state p.old p.new result }
 {
@@ -47,7 +46,7 @@ pub fn script_rest<'a, I: Tokens<'a> + Drop, N: Nested<'a, I>>(
 
 /// A module, after its hashbang.
 #[inline(never)]
-#[tactic(auto, using(parse_state::proofs::Marks::marks, parse_operands::proofs::Packs::packs), unfolding(grammar_spec::specs::Reader::Modules::program_rest, crate::specs::Items::items_by))]
+#[tactic(auto, using(parse_operands::proofs::Packs::packs), unfolding(grammar_spec::specs::Reader::Modules::program_rest, crate::specs::Items::items_by))]
 pub fn module_rest<'a, I: Tokens<'a> + Drop, N: Nested<'a, I>>(
     p: &mut Parser<'a, I>,
     nested: &N,
@@ -58,7 +57,7 @@ pub fn module_rest<'a, I: Tokens<'a> + Drop, N: Nested<'a, I>>(
     requires ready { N.ready nested.now }
     ensures value { ReadsBy I.machine I.state (N.reads nested.now) p.old p.new result
         (view_module inner)
-        (λ m r. reads.program_rest m r true (code_of code) (from start.0) shebang) }
+        (λ m r. reads.program_rest m r true (code_of code) start.0 shebang) }
     ensures fits { IfOk result (λ x. fits_module (λ p. p) x) }
     ensures not_longer { NotLonger I.machine I.state p.old p.new result }
 {
@@ -71,7 +70,7 @@ pub fn module_rest<'a, I: Tokens<'a> + Drop, N: Nested<'a, I>>(
 }
 
 /// The text of the hashbang that comes, where one does.
-#[tactic(auto, unfolding(parse_state::specs::Cursors::stream_of))]
+#[tactic(auto, using(parse_state::proofs::Firsts::firsts, parse_state::proofs::Firsts::lines), unfolding(parse_state::specs::Cursors::stream_of))]
 fn hashbang<'p, 'a, I: Tokens<'a> + Drop, N: Nested<'a, I>>(
     p: &'p Parser<'a, I>,
     _nested: &N,
@@ -80,8 +79,8 @@ fn hashbang<'p, 'a, I: Tokens<'a> + Drop, N: Nested<'a, I>>(
         ≡ reads.line_of (stream_of I.machine) (N.reads _nested.now I.State I.machine)
         (content (at_hand I.machine I.state p.now)) }
 {
-    match &p.ahead.token {
-        Some(token) => match &token.token {
+    match p.ahead.token() {
+        Some(token) => match token {
             Token::Shebang(text) => Some(text),
             _ => None,
         },
@@ -119,7 +118,7 @@ pub fn led_script<'a, I: Tokens<'a> + Drop, N: Nested<'a, I>>(
 ) -> Result<Script, Failure>
     requires ready { N.ready nested.now }
     ensures value { ReadsBy I.machine I.state (N.reads nested.now) p.old p.new result
-        (view_script inner) (λ m r. led_by m r false (code_of code) (from start.0)) }
+        (view_script inner) (λ m r. led_by m r false (code_of code) start.0) }
     ensures fits { IfOk result (λ x. fits_script (λ p. p) x) }
     ensures not_longer { NotLonger I.machine I.state p.old p.new result }
 {
@@ -138,7 +137,7 @@ pub fn led_module<'a, I: Tokens<'a> + Drop, N: Nested<'a, I>>(
 ) -> Result<Module, Failure>
     requires ready { N.ready nested.now }
     ensures value { ReadsBy I.machine I.state (N.reads nested.now) p.old p.new result
-        (view_module inner) (λ m r. led_by m r true (code_of code) (from start.0)) }
+        (view_module inner) (λ m r. led_by m r true (code_of code) start.0) }
     ensures fits { IfOk result (λ x. fits_module (λ p. p) x) }
     ensures not_longer { NotLonger I.machine I.state p.old p.new result }
 {

@@ -5,7 +5,7 @@ use Rattle.base_token.specs.Kinds.{assign_kind, colon_kind, left_paren_kind}
 use Rattle.tree_spec.specs.Tree.{Tree, assign_prop, ident, ident_name, key_value_prop, method_prop, spread_element}
 use Rattle.grammar_spec.specs.Tokens.Input.{Code, lo, span, with_in}
 use Rattle.grammar_spec.specs.Tokens.Operators.{assignment_level}
-use Rattle.grammar_spec.specs.Reader.Source.{unexpected, ◌>>=◌, Stream, Read, Inner, input, past, at, spanned}
+use Rattle.grammar_spec.specs.Reader.Source.{unexpected, ◌>>=◌, Stream, Read, Inner, input, past, at, spanned, here}
 use Rattle.grammar_spec.specs.Reader.Expressions.{function_by, key_by, method_prop_by, prop_rest, star}
 
 -- the word that a key is, where that is a name here
@@ -33,13 +33,13 @@ module _ {S : Type 0} (m : Stream S) (inner : Inner S) where
   keyed_by c s = key_by m inner c s >>= λ k. prop_rest m inner c s k.0 k.1
 
   -- `...` and an expression (13.2.5)
-  unfoldable pub spread_by : Code → Read S Tree
-  spread_by c s = inner.expr (with_in c) assignment_level (past m s) >>= λ e. Ok (spread_element (spanned m s e.1) e.0, e.1)
+  abbrev pub spread_by : Code → Read S Tree
+  spread_by c s = inner.expr (with_in c) assignment_level (past m s) >>= λ e. Ok (spread_element (spanned m (here m s) e.1) e.0, e.1)
 
   -- a generator (15.5)
-  unfoldable pub generator_by : Code → Read S Tree
+  abbrev pub generator_by : Code → Read S Tree
   generator_by c s = method_prop_by m inner c (lo (input m s)) true false (past m s)
 
   -- a method after `async`, with a star or without (15.6, 15.8)
-  unfoldable pub async_by : Code → Read S Tree
+  abbrev pub async_by : Code → Read S Tree
   async_by c s = star m inner (past m s) >>= λ g. method_prop_by m inner c (lo (input m s)) g.0 true g.1

@@ -84,7 +84,7 @@ pub fn props<'a, I: Tokens<'a> + Drop, N: Nested<'a, I>>(
 
 /// An object, from its brace on.
 #[inline(never)]
-#[tactic(auto, using(parse_state::proofs::Marks::marks, parse_operands::proofs::Packs::packs), unfolding(grammar_spec::specs::Reader::Expressions::object_by, crate::specs::Lists::props_by))]
+#[tactic(auto, using(parse_operands::proofs::Packs::packs), unfolding(grammar_spec::specs::Reader::Expressions::object_by, crate::specs::Lists::props_by))]
 pub fn object<'a, I: Tokens<'a> + Drop, N: Nested<'a, I>>(
     p: &mut Parser<'a, I>,
     nested: &N,

@@ -172,7 +172,6 @@ pub fn keyed<'a, I: Tokens<'a> + Drop, N: Nested<'a, I>>(
 
 /// `...` and an expression.
 #[inline(never)]
-#[tactic(auto, unfolding(crate::specs::Props::spread_by))]
 pub fn spread<'a, I: Tokens<'a> + Drop, N: Nested<'a, I>>(
     p: &mut Parser<'a, I>,
     nested: &N,
@@ -192,7 +191,6 @@ pub fn spread<'a, I: Tokens<'a> + Drop, N: Nested<'a, I>>(
 
 /// A generator, from its star on.
 #[inline(never)]
-#[tactic(auto, unfolding(crate::specs::Props::generator_by))]
 pub fn generator<'a, I: Tokens<'a> + Drop, N: Nested<'a, I>>(
     p: &mut Parser<'a, I>,
     nested: &N,
@@ -211,7 +209,6 @@ pub fn generator<'a, I: Tokens<'a> + Drop, N: Nested<'a, I>>(
 
 /// A method, from `async` on.
 #[inline(never)]
-#[tactic(auto, unfolding(crate::specs::Props::async_by))]
 pub fn async_method<'a, I: Tokens<'a> + Drop, N: Nested<'a, I>>(
     p: &mut Parser<'a, I>,
     nested: &N,
@@ -231,7 +228,7 @@ pub fn async_method<'a, I: Tokens<'a> + Drop, N: Nested<'a, I>>(
 
 /// A property, or `...` and an expression.
 #[inline(never)]
-#[tactic(auto, unfolding(grammar_spec::specs::Reader::Expressions::prop_by, crate::specs::Props::spread_by, crate::specs::Props::generator_by, crate::specs::Props::async_by, crate::specs::Props::keyed_by))]
+#[tactic(auto, unfolding(grammar_spec::specs::Reader::Expressions::prop_by, crate::specs::Props::keyed_by))]
 pub fn prop<'a, I: Tokens<'a> + Drop, N: Nested<'a, I>>(
     p: &mut Parser<'a, I>,
     nested: &N,

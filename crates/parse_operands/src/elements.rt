@@ -5,11 +5,10 @@ ghost use Rattle.base_token.specs.Kinds.{right_bracket_kind, right_paren_kind};
 ghost use Rattle.parse_operands.specs.Elements.{after_item};
 ghost use Rattle.tree_nodes.specs.Fits.{fits_expr_or_spread, fits_member_prop};
 ghost use Rattle.tree_nodes.specs.Placed.{holds_expr, inner};
-ghost use Rattle.tree_nodes.specs.View.{unary_op_word, update_op_word, view_computed_prop_name, view_expr_or_spread, view_member_prop, view_private_name};
+ghost use Rattle.tree_nodes.specs.View.{view_expr_or_spread};
 ghost use Rattle.grammar_spec.specs.Reader.Expressions as reads;
 ghost use Rattle.parse_state.specs.Answers.{going_on};
 ghost use Rattle.parse_state.specs.Codes.{code_of};
-ghost use Rattle.parse_state.specs.States.{from, from_span};
 ghost use Rattle.parse_state.specs.Reads.{ReadsAs, Shorter};
 ghost use Rattle.parse_operands.specs.Lists.{arguments_of, elements_of, FitArguments, FitElements, TellsRest};
 ghost use Rattle.parse_operands.specs.Operands.{tree_of};
@@ -24,7 +23,7 @@ use tree_nodes::ExprOrSpread;
 
 /// An element, after dots where it is spread.
 #[inline(always)]
-#[tactic(auto, using(parse_state::proofs::Marks::marks), unfolding(grammar_spec::specs::Reader::Expressions::element_by))]
+#[tactic(auto, unfolding(grammar_spec::specs::Reader::Expressions::element_by))]
 pub fn element<'a, I: Tokens<'a> + Drop, N: Nested<'a, I>>(
     p: &mut Parser<'a, I>,
     nested: &N,
@@ -130,7 +129,7 @@ pub fn elements<'a, I: Tokens<'a> + Drop, N: Nested<'a, I>>(
 
 /// One more argument, or the end of the arguments. Whether another may follow.
 #[inline(always)]
-#[tactic(auto, using(parse_state::proofs::Marks::marks), unfolding(grammar_spec::specs::Reader::Expressions::element_step, grammar_spec::specs::Reader::Expressions::after_element, crate::specs::Elements::after_item))]
+#[tactic(auto, unfolding(grammar_spec::specs::Reader::Expressions::element_step, grammar_spec::specs::Reader::Expressions::after_element, crate::specs::Elements::after_item))]
 pub fn argument_turn<'a, I: Tokens<'a> + Drop, N: Nested<'a, I>>(
     p: &mut Parser<'a, I>,
     nested: &N,
@@ -177,7 +176,7 @@ pub fn group_items<'a, I: Tokens<'a> + Drop, N: Nested<'a, I>>(
 }
 
 /// The arguments of a call, after their parenthesis.
-#[tactic(auto, using(parse_state::proofs::Marks::marks), unfolding(grammar_spec::specs::Reader::Expressions::arguments_by))]
+#[tactic(auto, unfolding(grammar_spec::specs::Reader::Expressions::arguments_by))]
 pub fn arguments<'a, I: Tokens<'a> + Drop, N: Nested<'a, I>>(
     p: &mut Parser<'a, I>,
     nested: &N,

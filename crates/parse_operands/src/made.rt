@@ -1,11 +1,16 @@
 //! Makers of expressions. Each stands in a function of its own, so that rules keep small frames.
 ghost use Rattle.std.specs.Prelude.{◌≡◌, false, true, All, IfErr, IfOk};
 ghost use Rattle.grammar_spec.specs.Tokens.Shape as shape;
-ghost use Rattle.tree_nodes.specs.Fits.{fits_expr_kind, fits_assign_target, fits_expr_or_spread, fits_held, fits_member_prop, fits_prop_or_spread, fits_super_prop, fits_tpl};
+ghost use Rattle.tree_nodes.specs.Fits.{fits_expr_kind, fits_assign_target, fits_expr_or_spread, fits_held};
+ghost use Rattle.tree_nodes.specs.Fits.{fits_member_prop, fits_prop_or_spread, fits_super_prop, fits_tpl};
 ghost use Rattle.tree_nodes.specs.Placed.{inner};
-ghost use Rattle.tree_nodes.specs.View.{meta_prop_kind_word, unary_op_word, update_op_word, view_assign_target, view_expr_kind, view_expr_or_spread, view_member_prop, view_prop_or_spread, view_private_name, view_super_prop, view_tpl};
+ghost use Rattle.tree_nodes.specs.View.{meta_prop_kind_word, unary_op_word, update_op_word, view_assign_target, view_expr_kind, view_expr_or_spread};
+ghost use Rattle.tree_nodes.specs.View.{view_member_prop, view_prop_or_spread, view_private_name, view_super_prop, view_tpl};
 ghost use Rattle.base_token.specs.OperatorKinds.{assign_op_kind, binary_op_kind};
-ghost use Rattle.tree_nodes.specs.Tree.{absent, array_lit, assign_expr, await_expr, bin_expr, bool_lit, call_expr, cond_expr, element_by, ident, import, list, member_expr, meta_prop_expr, new_expr, null_lit, object_lit, opt_call, opt_chain_expr, paren_expr, super, super_prop_expr, tagged_tpl, this_expr, trees_by, unary_expr, update_expr, yield_expr};
+ghost use Rattle.tree_nodes.specs.Tree.{absent, array_lit, assign_expr, await_expr, bin_expr, bool_lit, call_expr, cond_expr};
+ghost use Rattle.tree_nodes.specs.Tree.{element_by, ident, import, list, member_expr, meta_prop_expr, new_expr, null_lit};
+ghost use Rattle.tree_nodes.specs.Tree.{object_lit, opt_call, opt_chain_expr, paren_expr, super, super_prop_expr, tagged_tpl};
+ghost use Rattle.tree_nodes.specs.Tree.{this_expr, trees_by, unary_expr, update_expr, yield_expr};
 ghost use Rattle.parse_state.specs.Answers.{IsMemory};
 ghost use Rattle.parse_operands.specs.Operands.{call_tree, on_chain, tree_of};
 

@@ -14,7 +14,7 @@ use tree_nodes::{ComputedPropName, PrivateName};
 
 /// A private name, whose `#` touches it.
 #[inline(never)]
-#[tactic(auto, using(parse_state::proofs::Marks::marks), unfolding(grammar_spec::specs::Reader::Expressions::private_by))]
+#[tactic(auto, unfolding(grammar_spec::specs::Reader::Expressions::private_by))]
 pub fn private_name<'a, I: Tokens<'a> + Drop, N: Nested<'a, I>>(
     p: &mut Parser<'a, I>,
     _nested: &N,
@@ -39,7 +39,7 @@ pub fn private_name<'a, I: Tokens<'a> + Drop, N: Nested<'a, I>>(
 
 /// A key in brackets.
 #[inline(never)]
-#[tactic(auto, using(parse_state::proofs::Marks::marks), unfolding(grammar_spec::specs::Reader::Expressions::computed_by))]
+#[tactic(auto, unfolding(grammar_spec::specs::Reader::Expressions::computed_by))]
 pub fn computed<'a, I: Tokens<'a> + Drop, N: Nested<'a, I>>(
     p: &mut Parser<'a, I>,
     nested: &N,

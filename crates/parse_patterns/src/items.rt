@@ -5,7 +5,6 @@ ghost use Rattle.tree_nodes.specs.Placed.{holds_pat, inner};
 ghost use Rattle.tree_nodes.specs.View.{view_rest_pat};
 ghost use Rattle.grammar_spec.specs.Reader.Statements as reads;
 ghost use Rattle.parse_state.specs.Codes.{code_of};
-ghost use Rattle.parse_state.specs.States.{from};
 ghost use Rattle.parse_state.specs.Reads.{ReadsAs, Shorter, NotLonger};
 ghost use Rattle.parse_operands.specs.Rules.{ReadsBy};
 ghost use Rattle.parse_operands.specs.Operands.{tree_in};
@@ -22,7 +21,7 @@ use tree_nodes::{PatBox, RestPat};
 
 /// A pattern with an initialiser, where one follows.
 #[inline(never)]
-#[tactic(auto, using(parse_state::proofs::Marks::marks), unfolding(grammar_spec::specs::Reader::Statements::initial_pat))]
+#[tactic(auto, unfolding(grammar_spec::specs::Reader::Statements::initial_pat))]
 pub fn initial<'a, I: Tokens<'a> + Drop, N: Nested<'a, I>>(
     p: &mut Parser<'a, I>,
     nested: &N,
@@ -34,7 +33,7 @@ pub fn initial<'a, I: Tokens<'a> + Drop, N: Nested<'a, I>>(
     requires pat { holds_pat pat.part.value }
     ensures value { ReadsBy I.machine I.state (N.reads nested.now) p.old p.new result
         tree_in
-        (λ m r. reads.initial_pat m r (code_of code) (from start.0) (inner pat.part.value)) }
+        (λ m r. reads.initial_pat m r (code_of code) start.0 (inner pat.part.value)) }
     ensures fits { IfOk result (λ x. holds_pat x.part.value) }
     ensures not_longer { NotLonger I.machine I.state p.old p.new result }
 {
@@ -47,7 +46,7 @@ pub fn initial<'a, I: Tokens<'a> + Drop, N: Nested<'a, I>>(
 
 /// An item of a pattern, with an initialiser or without.
 #[inline(never)]
-#[tactic(auto, using(parse_state::proofs::Marks::marks, crate::proofs::Starts::starts), unfolding(crate::specs::Items::item_by))]
+#[tactic(auto, unfolding(crate::specs::Items::item_by))]
 pub fn item<'a, I: Tokens<'a> + Drop, N: Nested<'a, I>>(
     p: &mut Parser<'a, I>,
     nested: &N,
@@ -66,7 +65,7 @@ pub fn item<'a, I: Tokens<'a> + Drop, N: Nested<'a, I>>(
 
 /// A rest, from its dots on.
 #[inline(never)]
-#[tactic(auto, using(parse_state::proofs::Marks::marks), unfolding(crate::specs::Items::rest_by))]
+#[tactic(auto, unfolding(crate::specs::Items::rest_by))]
 pub fn rest<'a, I: Tokens<'a> + Drop, N: Nested<'a, I>>(
     p: &mut Parser<'a, I>,
     nested: &N,

@@ -13,7 +13,7 @@ ghost use Rattle.parse_state.specs.Reads.{Shorter, to_come};
 ghost use Rattle.parse_state.specs.States.{state_of};
 ghost use Rattle.parse_operands.specs.Rules.{ReadsBy};
 ghost use Rattle.parse_operands.specs.Operands.{tree_in};
-ghost use Rattle.parse_patterns.specs.Items.{array_items, object_items, object_rest};
+ghost use Rattle.parse_patterns.specs.Items.{array_items, object_items, object_rest, rest_item};
 
 use crate::items::{goes_on, item, rest};
 use crate::made;
@@ -91,7 +91,7 @@ pub fn array_items<'a, I: Tokens<'a> + Drop, N: Nested<'a, I>>(
 
 /// An array, from its bracket on.
 #[inline(always)]
-#[tactic(auto, using(parse_state::proofs::Marks::marks, parse_operands::proofs::Packs::packs), unfolding(grammar_spec::specs::Reader::Statements::array_pat_by, crate::specs::Items::array_items))]
+#[tactic(auto, using(parse_operands::proofs::Packs::packs), unfolding(grammar_spec::specs::Reader::Statements::array_pat_by, crate::specs::Items::array_items))]
 pub fn array<'a, I: Tokens<'a> + Drop, N: Nested<'a, I>>(
     p: &mut Parser<'a, I>,
     nested: &N,
@@ -144,9 +144,33 @@ fn add(list: &mut Vec<ObjectPatProp>, item: ObjectPatProp) -> Result<(), Failure
     Ok(())
 }
 
+/// A rest of an object, and its brace, since none follows.
+#[inline(always)]
+#[tactic(auto, unfolding(crate::specs::Items::rest_item, crate::specs::Items::object_rest, crate::specs::Items::after_by, grammar_spec::specs::Reader::Statements::after_item))]
+fn rest_turn<'a, I: Tokens<'a> + Drop, N: Nested<'a, I>>(
+    p: &mut Parser<'a, I>,
+    nested: &N,
+    code: Around,
+    list: &mut Vec<ObjectPatProp>,
+) -> Result<bool, Failure>
+    requires ready { N.ready nested.now }
+    requires fits { All (λ y. fits_object_pat_prop (λ p. p) y) list.old.items }
+    ensures value { Gives
+        (λ x. (going_on x (map (view_object_pat_prop inner) list.new.items), state_of I.state p.new))
+        (to_come I.machine I.state p.new) result
+        (rest_item (stream_of I.machine) (N.reads nested.now I.State I.machine)
+        (code_of code) (map (view_object_pat_prop inner) list.old.items) (state_of I.state p.old)) }
+    ensures fits { IfOk result (λ x. All (λ y. fits_object_pat_prop (λ p. p) y) list.new.items) }
+    ensures shorter { Shorter I.machine I.state p.old p.new result }
+{
+    let item = object_rest(p, nested, code)?;
+    add(list, item)?;
+    goes_on(p, kinds::RIGHT_BRACE, true)
+}
+
 /// One more property of an object, or its brace. Whether another may follow.
 #[inline(always)]
-#[tactic(auto, unfolding(grammar_spec::specs::Reader::Statements::object_item, grammar_spec::specs::Reader::Statements::after_item, crate::specs::Items::after_by, crate::specs::Items::object_rest))]
+#[tactic(auto, unfolding(grammar_spec::specs::Reader::Statements::object_item, grammar_spec::specs::Reader::Statements::after_item, crate::specs::Items::after_by, crate::specs::Items::rest_item))]
 pub fn object_turn<'a, I: Tokens<'a> + Drop, N: Nested<'a, I>>(
     p: &mut Parser<'a, I>,
     nested: &N,
@@ -155,8 +179,11 @@ pub fn object_turn<'a, I: Tokens<'a> + Drop, N: Nested<'a, I>>(
 ) -> Result<bool, Failure>
     requires ready { N.ready nested.now }
     requires fits { All (λ y. fits_object_pat_prop (λ p. p) y) list.old.items }
-    ensures value { Gives (λ x. (going_on x (map (view_object_pat_prop inner) list.new.items), state_of I.state p.new)) (to_come I.machine I.state p.new) result
-        (reads.object_item (stream_of I.machine) (N.reads nested.now I.State I.machine) (code_of code) (map (view_object_pat_prop inner) list.old.items) (state_of I.state p.old)) }
+    ensures value { Gives
+        (λ x. (going_on x (map (view_object_pat_prop inner) list.new.items), state_of I.state p.new))
+        (to_come I.machine I.state p.new) result
+        (reads.object_item (stream_of I.machine) (N.reads nested.now I.State I.machine)
+        (code_of code) (map (view_object_pat_prop inner) list.old.items) (state_of I.state p.old)) }
     ensures fits { IfOk result (λ x. All (λ y. fits_object_pat_prop (λ p. p) y) list.new.items) }
     ensures shorter { Shorter I.machine I.state p.old p.new result }
 {
@@ -164,9 +191,7 @@ pub fn object_turn<'a, I: Tokens<'a> + Drop, N: Nested<'a, I>>(
         return Ok(false);
     }
     if p.at(kinds::DOT_DOT_DOT) {
-        let item = object_rest(p, nested, code)?;
-        add(list, item)?;
-        return goes_on(p, kinds::RIGHT_BRACE, true);
+        return rest_turn(p, nested, code, list);
     }
     let item = property(p, nested, code)?;
     add(list, item)?;
@@ -194,7 +219,7 @@ pub fn object_items<'a, I: Tokens<'a> + Drop, N: Nested<'a, I>>(
 
 /// An object, from its brace on.
 #[inline(always)]
-#[tactic(auto, using(parse_state::proofs::Marks::marks, parse_operands::proofs::Packs::packs), unfolding(grammar_spec::specs::Reader::Statements::object_pat_by, crate::specs::Items::object_items))]
+#[tactic(auto, using(parse_operands::proofs::Packs::packs), unfolding(grammar_spec::specs::Reader::Statements::object_pat_by, crate::specs::Items::object_items))]
 pub fn object<'a, I: Tokens<'a> + Drop, N: Nested<'a, I>>(
     p: &mut Parser<'a, I>,
     nested: &N,
@@ -214,7 +239,7 @@ pub fn object<'a, I: Tokens<'a> + Drop, N: Nested<'a, I>>(
 
 /// A binding: a name or a pattern.
 #[inline(never)]
-#[tactic(auto, using(parse_state::proofs::Marks::marks), unfolding(grammar_spec::specs::Reader::Statements::pat_by))]
+#[tactic(auto, unfolding(grammar_spec::specs::Reader::Statements::pat_by))]
 pub fn pattern<'a, I: Tokens<'a> + Drop, N: Nested<'a, I>>(
     p: &mut Parser<'a, I>,
     nested: &N,

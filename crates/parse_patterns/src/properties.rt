@@ -7,7 +7,7 @@ ghost use Rattle.grammar_spec.specs.Reader.Source as spec;
 ghost use Rattle.grammar_spec.specs.Reader.Statements as reads;
 ghost use Rattle.parse_state.specs.Codes.{code_of};
 ghost use Rattle.parse_state.specs.Cursors.{stream_of};
-ghost use Rattle.parse_state.specs.States.{from, state_of};
+ghost use Rattle.parse_state.specs.States.{state_of};
 ghost use Rattle.parse_state.specs.Reads.{Shorter, NotLonger};
 ghost use Rattle.parse_operands.specs.Rules.{ReadsBy};
 ghost use Rattle.parse_patterns.specs.Items.{named_rest};
@@ -25,7 +25,7 @@ use tree_nodes::{
 
 /// What follows the colon of a property.
 #[inline(always)]
-#[tactic(auto, using(parse_state::proofs::Marks::marks), unfolding(grammar_spec::specs::Reader::Statements::keyed_item, crate::specs::Items::item_by))]
+#[tactic(auto, unfolding(grammar_spec::specs::Reader::Statements::keyed_item, crate::specs::Items::item_by))]
 pub fn keyed<'a, I: Tokens<'a> + Drop, N: Nested<'a, I>>(
     p: &mut Parser<'a, I>,
     nested: &N,
@@ -37,7 +37,7 @@ pub fn keyed<'a, I: Tokens<'a> + Drop, N: Nested<'a, I>>(
     requires key { fits_prop_name (λ p. p) key }
     ensures value { ReadsBy I.machine I.state (N.reads nested.now) p.old p.new result
         (view_object_pat_prop inner)
-        (λ m r. reads.keyed_item m r (code_of code) (from start.0) (view_prop_name inner key)) }
+        (λ m r. reads.keyed_item m r (code_of code) start.0 (view_prop_name inner key)) }
     ensures fits { IfOk result (λ x. fits_object_pat_prop (λ p. p) x) }
     ensures shorter { Shorter I.machine I.state p.old p.new result }
 {
@@ -48,7 +48,7 @@ pub fn keyed<'a, I: Tokens<'a> + Drop, N: Nested<'a, I>>(
 
 /// What follows a name that is both key and binding.
 #[inline(never)]
-#[tactic(auto, using(parse_state::proofs::Marks::marks), unfolding(crate::specs::Items::named_rest))]
+#[tactic(auto, unfolding(crate::specs::Items::named_rest))]
 pub fn named<'a, I: Tokens<'a> + Drop, N: Nested<'a, I>>(
     p: &mut Parser<'a, I>,
     nested: &N,
@@ -84,7 +84,7 @@ pub fn named<'a, I: Tokens<'a> + Drop, N: Nested<'a, I>>(
 
 /// A property of a pattern that begins with a name.
 #[inline(never)]
-#[tactic(auto, using(parse_state::proofs::Marks::marks, crate::proofs::Starts::words), unfolding(grammar_spec::specs::Reader::Source::name))]
+#[tactic(auto, using(crate::proofs::Words::word_prop), unfolding(grammar_spec::specs::Reader::Source::name))]
 pub fn word_property<'a, I: Tokens<'a> + Drop, N: Nested<'a, I>>(
     p: &mut Parser<'a, I>,
     nested: &N,
@@ -109,7 +109,7 @@ pub fn word_property<'a, I: Tokens<'a> + Drop, N: Nested<'a, I>>(
 
 /// A property of a pattern.
 #[inline(always)]
-#[tactic(auto, using(parse_state::proofs::Marks::marks, crate::proofs::Starts::starts), unfolding(grammar_spec::specs::Reader::Statements::pattern_prop, grammar_spec::specs::Reader::Statements::named_item, grammar_spec::specs::Reader::Source::name))]
+#[tactic(auto, unfolding(grammar_spec::specs::Reader::Statements::pattern_prop, grammar_spec::specs::Reader::Statements::named_item, grammar_spec::specs::Reader::Source::name))]
 pub fn property<'a, I: Tokens<'a> + Drop, N: Nested<'a, I>>(
     p: &mut Parser<'a, I>,
     nested: &N,

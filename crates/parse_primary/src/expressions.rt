@@ -17,7 +17,7 @@ use parse_state::{Around, Failure, Parser, Tokens, kinds};
 
 /// `#x in`, where a relation may stand, and the operators behind it (ECMA-262, 13.10).
 #[inline(never)]
-#[tactic(auto, using(parse_state::proofs::Marks::marks, crate::proofs::Starts::starts, parse_state::proofs::Marks::loop_from), unfolding(grammar_spec::specs::Reader::Expressions::private_in))]
+#[tactic(auto, unfolding(grammar_spec::specs::Reader::Expressions::private_in))]
 pub fn private_in<'a, I: Tokens<'a> + Drop, N: Nested<'a, I>>(
     p: &mut Parser<'a, I>,
     nested: &N,
@@ -41,7 +41,7 @@ pub fn private_in<'a, I: Tokens<'a> + Drop, N: Nested<'a, I>>(
 
 /// An expression of a level or a tighter one, whose first token is read as what starts one.
 #[inline(always)]
-#[tactic(auto, using(parse_state::proofs::Marks::marks, parse_state::proofs::Marks::loop_from), unfolding(grammar_spec::specs::Reader::Expressions::expr_from))]
+#[tactic(auto, unfolding(grammar_spec::specs::Reader::Expressions::expr_from))]
 pub fn expr_from<'a, I: Tokens<'a> + Drop, N: Nested<'a, I>>(
     p: &mut Parser<'a, I>,
     nested: &N,

@@ -35,7 +35,7 @@ pub fn fits_import<'a, I: Tokens<'a> + Drop, N: Nested<'a, I>>(
 
 /// `import` with its arguments, or `import.meta`.
 #[inline(never)]
-#[tactic(auto, using(parse_state::proofs::Marks::marks, parse_operands::proofs::Packs::packs), unfolding(grammar_spec::specs::Reader::Expressions::import_by))]
+#[tactic(auto, using(parse_operands::proofs::Packs::packs), unfolding(grammar_spec::specs::Reader::Expressions::import_by))]
 pub fn import<'a, I: Tokens<'a> + Drop, N: Nested<'a, I>>(
     p: &mut Parser<'a, I>,
     nested: &N,

@@ -25,7 +25,7 @@ use parse_state::{Around, Failure, Parser, Tokens, kinds};
 
 /// A name, which may be the one parameter of an arrow.
 #[inline(never)]
-#[tactic(auto, using(parse_state::proofs::Marks::marks, crate::proofs::Starts::starts), unfolding(grammar_spec::specs::Reader::Expressions::word_by))]
+#[tactic(auto, unfolding(grammar_spec::specs::Reader::Expressions::word_by))]
 fn named<'a, I: Tokens<'a> + Drop, N: Nested<'a, I>>(
     p: &mut Parser<'a, I>,
     nested: &N,
@@ -45,7 +45,7 @@ fn named<'a, I: Tokens<'a> + Drop, N: Nested<'a, I>>(
 
 /// A name, or what the word `async` starts.
 #[inline(always)]
-#[tactic(auto, using(parse_state::proofs::Marks::marks), unfolding(grammar_spec::specs::Reader::Expressions::word_by))]
+#[tactic(auto, unfolding(grammar_spec::specs::Reader::Expressions::word_by))]
 pub fn word<'a, I: Tokens<'a> + Drop, N: Nested<'a, I>>(
     p: &mut Parser<'a, I>,
     nested: &N,
@@ -65,7 +65,6 @@ pub fn word<'a, I: Tokens<'a> + Drop, N: Nested<'a, I>>(
 
 /// `super` with what follows it.
 #[inline(never)]
-#[tactic(auto, using(parse_state::proofs::Marks::marks, crate::proofs::Starts::starts), unfolding(crate::specs::Words::super_by))]
 pub fn super_expr<'a, I: Tokens<'a> + Drop, N: Nested<'a, I>>(
     p: &mut Parser<'a, I>,
     nested: &N,
@@ -83,7 +82,6 @@ pub fn super_expr<'a, I: Tokens<'a> + Drop, N: Nested<'a, I>>(
 
 /// An operator that is a word with its operand, or any other word.
 #[inline(always)]
-#[tactic(auto, unfolding(crate::specs::Words::operator_word))]
 pub fn operator_word<'a, I: Tokens<'a> + Drop, N: Nested<'a, I>>(
     p: &mut Parser<'a, I>,
     nested: &N,
@@ -110,7 +108,6 @@ pub fn operator_word<'a, I: Tokens<'a> + Drop, N: Nested<'a, I>>(
 
 /// `new`, `super` or `import`, or another word.
 #[inline(always)]
-#[tactic(auto, unfolding(crate::specs::Words::member_word))]
 pub fn member_word<'a, I: Tokens<'a> + Drop, N: Nested<'a, I>>(
     p: &mut Parser<'a, I>,
     nested: &N,
@@ -137,7 +134,6 @@ pub fn member_word<'a, I: Tokens<'a> + Drop, N: Nested<'a, I>>(
 
 /// A function or a class, or another word.
 #[inline(always)]
-#[tactic(auto, using(parse_state::proofs::Marks::marks, crate::proofs::Starts::starts), unfolding(crate::specs::Words::definition_word))]
 pub fn definition_word<'a, I: Tokens<'a> + Drop, N: Nested<'a, I>>(
     p: &mut Parser<'a, I>,
     nested: &N,
@@ -162,7 +158,7 @@ pub fn definition_word<'a, I: Tokens<'a> + Drop, N: Nested<'a, I>>(
 
 /// `true` or `false`, or another word.
 #[inline(never)]
-#[tactic(auto, unfolding(crate::specs::Words::boolean_word, parse_expressions::specs::Words::fixed_word))]
+#[tactic(auto, unfolding(parse_expressions::specs::Words::fixed_word))]
 pub fn boolean_word<'a, I: Tokens<'a> + Drop, N: Nested<'a, I>>(
     p: &mut Parser<'a, I>,
     nested: &N,
@@ -188,7 +184,7 @@ pub fn boolean_word<'a, I: Tokens<'a> + Drop, N: Nested<'a, I>>(
 
 /// What a word starts that is no plain name.
 #[inline(always)]
-#[tactic(auto, unfolding(grammar_spec::specs::Reader::Expressions::keyword_by, crate::specs::Words::boolean_word, crate::specs::Words::definition_word, crate::specs::Words::member_word, crate::specs::Words::super_by, crate::specs::Words::operator_word, parse_expressions::specs::Words::fixed_word))]
+#[tactic(auto, unfolding(grammar_spec::specs::Reader::Expressions::keyword_by, parse_expressions::specs::Words::fixed_word))]
 fn own_word<'a, I: Tokens<'a> + Drop, N: Nested<'a, I>>(
     p: &mut Parser<'a, I>,
     nested: &N,

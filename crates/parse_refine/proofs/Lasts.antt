@@ -18,12 +18,11 @@ by_index : {A : Type 0} (f : A → Tree) (x : A) (xs : List A) → last_rests (m
 by_index f x [] = refl
 by_index f x (y ∷ ys) = by_index f y ys
 
-before : {A : Type 0} (x : A) (xs : List A) → length xs ≡ length (x ∷ xs) - 1
-before x xs = omega arith
-
 rests_by : {A : Type 0} (f : A → Tree) (xs : List A) → last_rests (map f xs) ≡ told f (slice_get xs (length xs - 1))
 rests_by f [] = refl
-rests_by f (x ∷ xs) = by_index f x xs ∙ ap (λ n. told f (slice_get (x ∷ xs) n)) (before x xs)
+rests_by f (x ∷ xs) =
+    let at_last : length xs ≡ length (x ∷ xs) - 1 = omega arith in
+    by_index f x xs ∙ ap (λ n. told f (slice_get (x ∷ xs) n)) at_last
 
 spread_is : (s : Span) (d : Option Span) (t : Tree) → is_rest_item (expr_or_spread s d t) ≡ is_some d
 spread_is s None t = refl

@@ -4,6 +4,7 @@ use Rattle.std.proofs.lemmas.List.{append-nil}
 use Rattle.std.proofs.lemmas.Bool.{lt-ltb}
 use Rattle.base_token.specs.declared.place.Span.{Span}
 use Rattle.tree_spec.specs.Tree.{Tree, Trees, none, more, pack, unpack, trees_by, array_lit, array_pat, object_lit, object_pat}
+use Rattle.tree_spec.proofs.PackLemmas.{pack_unpack}
 use Rattle.parse_operands.proofs.Packs.{packed}
 use Rattle.grammar_spec.specs.Reader.Source.{Fault, unfit, ◌>>=◌}
 use Rattle.grammar_spec.specs.Reader.Cover.{has, to_item, to_items, as_prop, is_rest_item}
@@ -37,12 +38,8 @@ module _ (props binds : Bool) (commas : List ℕ) where
   from_is made (more x (more y ys)) =
       chosen (is_rest_item x) made _ _ (first made (λ made. items_from props binds commas made (more y ys)) (as_prop props x (to_item binds commas x)) (to_items props binds commas (more y ys)) (λ p. from_is (made ++ p ∷ []) (more y ys)))
 
-  repacked : (ts : Trees) → pack (unpack ts) ≡ ts
-  repacked none = refl
-  repacked (more t ts) = ap (more t) (repacked ts)
-
   all_of : (r : Result Trees Fault) → (r >>= λ ps. Ok (pack ([] ++ unpack ps))) ≡ r
-  all_of (Ok ps) = ap Ok (repacked ps)
+  all_of (Ok ps) = ap Ok (pack_unpack ps)
   all_of (Err f) = refl
 
   pub items_is : (xs : Trees) → to_items props binds commas xs ≡ items_from props binds commas [] xs

@@ -3,6 +3,7 @@ use Rattle.std.proofs.Common.{◌≡◌, ◌<◌, ◌≤◌, ◌+◌, ◌-◌, �
 use Rattle.std.proofs.lemmas.Bool.{lt-ltb}
 use Rattle.std.proofs.lemmas.List.{drop_all, drop_more, length-drop}
 use Rattle.std.specs.Option.{is_some}
+use Rattle.std.proofs.Math.Bool.{and-false}
 use Rattle.base_token.specs.declared.place.Span.{Span}
 use Rattle.base_token.specs.Kinds.{assign_kind}
 use Rattle.tree_spec.specs.Tree.{Tree, Trees, none, more, element_by, trees_by, array_lit, array_pat, assign_expr, assign_pat, expr_or_spread, key_value_pat_prop, object_lit, object_pat, spread_element, unpack}
@@ -62,10 +63,6 @@ array_told commas s xs h b e = sym (array_is commas s xs ∙ rw (h, e) refl)
 pub object_told : (commas : List ℕ) (s : Span) (xs : Trees) → has s.lo.0 commas ≡ false → (b : Bool) → all_told true commas xs ≡ b → b ≡ is_read (to_item true commas (object_lit s xs))
 object_told commas s xs h b e = sym (object_is commas s xs ∙ rw (h, e) refl)
 
-and_false : (b : Bool) → (b && false) ≡ false
-and_false true = refl
-and_false false = refl
-
 -- The items of a list from one of them on: where it can't stand there, at a rest before others, and at the end.
 module _ (props : Bool) (commas : List ℕ) {A : Type 0} (f : A → Tree) where
   at_item : (xs : List A) (i : ℕ) (x : A) → i < length xs → x ≡ get_or xs i x
@@ -81,7 +78,7 @@ module _ (props : Bool) (commas : List ℕ) {A : Type 0} (f : A → Tree) where
 
   pub stops_at_item : (xs : List A) (i : ℕ) (x : A) → i < length xs → x ≡ get_or xs i x → is_read (item_by props true commas (f x)) ≡ false
       → all_told props commas (trees_by f (drop i xs)) ≡ false
-  stops_at_item xs i x l e r = at_item xs i x l e ∙ rw r (and_false (not (is_more (trees_by f (drop (i + 1) xs)) && is_rest_item (f x))))
+  stops_at_item xs i x l e r = at_item xs i x l e ∙ rw r (and-false (not (is_more (trees_by f (drop (i + 1) xs)) && is_rest_item (f x))))
 
   pub nothing_left : (xs : List A) (i : ℕ) → length xs ≤ i → all_told props commas (trees_by f (drop i xs)) ≡ true
   nothing_left xs i l = ap (λ (ys : List A). all_told props commas (trees_by f ys)) (drop_all i xs l)

@@ -1,9 +1,11 @@
 //! Items of patterns: what was read as an expression, an element or a property, part by part.
 ghost use Rattle.std.specs.Prelude.{◌≡◌, [], ◌∷◌, ◌++◌, false, true, All, IfErr, IfOk, OnOk, reverse};
 ghost use Rattle.tree_spec.specs.Tree.{element_by};
-ghost use Rattle.tree_nodes.specs.Fits.{fits_array_pat, fits_held, fits_object_lit, fits_object_pat, fits_object_pat_prop, fits_prop, fits_prop_or_spread};
+ghost use Rattle.tree_nodes.specs.Fits.{fits_array_pat, fits_held, fits_object_lit, fits_object_pat};
+ghost use Rattle.tree_nodes.specs.Fits.{fits_object_pat_prop, fits_prop, fits_prop_or_spread};
 ghost use Rattle.tree_nodes.specs.Placed.{holds_pat, inner};
-ghost use Rattle.tree_nodes.specs.View.{view_array_lit, view_array_pat, view_expr_or_spread, view_object_lit, view_object_pat, view_object_pat_prop, view_prop, view_prop_or_spread, view_spread_element};
+ghost use Rattle.tree_nodes.specs.View.{view_array_lit, view_array_pat, view_expr_or_spread, view_object_lit, view_object_pat};
+ghost use Rattle.tree_nodes.specs.View.{view_object_pat_prop, view_prop, view_prop_or_spread, view_spread_element};
 ghost use Rattle.grammar_spec.specs.Reader.Cover.{is_rest_item, to_item};
 ghost use Rattle.parse_state.specs.Answers.{Gives, IsMemory};
 ghost use Rattle.parse_refine.specs.Items.{item_by};

@@ -2,9 +2,11 @@
 ghost use Rattle.std.specs.Prelude.{◌≡◌, false, true, reverse, if◌then◌else◌, Some, ℕ, List};
 ghost use Rattle.base_token.specs.declared.place.Span.{Span};
 ghost use Rattle.tree_spec.specs.Tree.{element_by, expr_or_spread, spread_element};
-ghost use Rattle.tree_nodes.specs.Fits.{fits_array_lit, fits_assign_expr, fits_assign_target, fits_expr_or_spread, fits_held, fits_object_lit, fits_prop, fits_prop_or_spread, fits_spread_element};
+ghost use Rattle.tree_nodes.specs.Fits.{fits_array_lit, fits_assign_expr, fits_assign_target, fits_expr_or_spread, fits_held};
+ghost use Rattle.tree_nodes.specs.Fits.{fits_object_lit, fits_prop, fits_prop_or_spread, fits_spread_element};
 ghost use Rattle.tree_nodes.specs.Placed.{holds_expr, inner};
-ghost use Rattle.tree_nodes.specs.View.{view_array_lit, view_assign_expr, view_assign_target, view_expr_or_spread, view_object_lit, view_prop, view_prop_or_spread, view_spread_element};
+ghost use Rattle.tree_nodes.specs.View.{view_array_lit, view_assign_expr, view_assign_target, view_expr_or_spread};
+ghost use Rattle.tree_nodes.specs.View.{view_object_lit, view_prop, view_prop_or_spread, view_spread_element};
 ghost use Rattle.grammar_spec.specs.Reader.Cover.{binds_names, to_item};
 ghost use Rattle.grammar_spec.specs.Reader.Expressions.{is_read};
 ghost use Rattle.parse_refine.specs.Items.{item_by};

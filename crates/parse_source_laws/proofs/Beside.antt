@@ -209,7 +209,7 @@ module _ {S : Type 0} {m : Stream S} {Live : S → Type 0} {modular : Bool} (w :
   pub lo_same : (k : Ceiling) (s : State S) (r : State Input) → Beside m Live k s r → lo (input lm r) ≡ lo (input m s)
   lo_same k s r h = lo_by r.source.last r.source.places (m.seen s.source) (m.last s.source) h.last (seen_next k s r h)
 
-  pub span_same : (k i : Ceiling) (s t : State S) (r q : State Input) → Beside m Live k s r → Beside m Live i t q → spanned lm r q ≡ spanned m s t
+  pub span_same : (k i : Ceiling) (s t : State S) (r q : State Input) → Beside m Live k s r → Beside m Live i t q → spanned lm (lo (input lm r)) q ≡ spanned m (lo (input m s)) t
   span_same k i s t r q h g = ap₂ (λ (a b : ℕ). span a b) (lo_same k s r h) (sym g.last)
 
   -- ---- the same first token

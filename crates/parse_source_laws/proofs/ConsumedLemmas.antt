@@ -1,7 +1,7 @@
 -- The readers of every depth read of a list that a source hands out what they read of the source; so programs are.
 use Rattle.std.proofs.Common.{◌≡◌, ℕ, zero, suc, Bool, true, false, ◌&&◌, cond, nat_lt, List, [], ◌∷◌, Option, Some, None, Result, Ok, Err, if◌then◌else◌, refl, sym, ap, ◌∙◌, true≢false}
 use Rattle.tree_spec.specs.Tree.{Tree}
-use Rattle.grammar_spec.specs.Tokens.Input.{PlacedToken, Input, Code, content, in_list, script_code, module_code}
+use Rattle.grammar_spec.specs.Tokens.Input.{PlacedToken, Input, Code, content, in_list, script_code, module_code, lo}
 use Rattle.grammar_spec.specs.Tokens.Operators.{closed_end}
 use Rattle.grammar_spec.specs.Tokens.Shape.{is_use_strict, is_clean}
 use Rattle.base_token.specs.Kinds.{shebang_kind}
@@ -87,7 +87,7 @@ module _ {S : Type 0} (m : Stream S) (im : Inner S) where
   unfolding program_step program_item
   step_stops modules b s = stops_if m Done (ended m s) _ _ (λ e. record { so = done_of s e }) (stops_then m Done (item_by m im modules (in_list b.code) (operand m s)) _ (λ t. stops_if m Done (b.starts && is_use_strict t.0) _ _ (λ e. record { so = tt }) (record { so = tt })))
 
-  rest_ends : (modules : Bool) (c : Code) (start : State S) (l : Option (List ℕ)) (s : State S) → Ends m Done (program_rest m im modules c start l s)
+  rest_ends : (modules : Bool) (c : Code) (start : State S) (l : Option (List ℕ)) (s : State S) → Ends m Done (program_rest m im modules c (lo (input m start)) l s)
   unfolding program_rest
   rest_ends modules c start l s = ends_then m Done _ _ (ends_iterate m Done (program_step m im modules) (λ x s. step_stops modules x s) _ s) (λ a t e. record { so = e })
 
@@ -95,7 +95,7 @@ module _ {S : Type 0} (m : Stream S) (im : Inner S) where
   unfolding program_by
   program_ends modules c s = ends_if m Done (at m shebang_kind s) _ _ (by_line (line_of m im (content (input m s)))) (rest_ends modules c s None s)
     where
-      by_line : (o : Option (List ℕ)) → Ends m Done {A = Tree} (elim o [ None ↦ unexpected m s | Some l ↦ program_rest m im modules c s (Some l) (past m s) ])
+      by_line : (o : Option (List ℕ)) → Ends m Done {A = Tree} (elim o [ None ↦ unexpected m s | Some l ↦ program_rest m im modules c (lo (input m s)) (Some l) (past m s) ])
       by_line None = record { so = tt }
       by_line (Some l) = rest_ends modules c s (Some l) (past m s)
 

@@ -5,7 +5,7 @@ use Rattle.base_token.specs.declared.place.Span.{Span}
 use Rattle.base_token.specs.Kinds.{div_kind, div_assign_kind, left_brace_kind, right_brace_kind, comma_kind, str_kind, mul_kind, function_kind, class_kind, import_kind, default_kind, with_kind, shebang_kind, export_kind, as_kind, assert_kind, from_kind}
 use Rattle.base_token.specs.Tokens.{Content}
 use Rattle.tree_spec.specs.Tree.{Tree, none, pack, ident, absent, more, import_decl, export_decl, named_export, export_default_decl, export_default_expr, export_all, import_named_specifier, import_default_specifier, import_star_as_specifier, export_namespace_specifier, export_named_specifier}
-use Rattle.grammar_spec.specs.Tokens.Input.{PlacedToken, Input, Code, kind, kind_of, content, text, is_word, span, brk, in_list, turned_strict}
+use Rattle.grammar_spec.specs.Tokens.Input.{PlacedToken, Input, Code, kind, kind_of, content, text, is_word, span, brk, in_list, turned_strict, lo}
 use Rattle.grammar_spec.specs.Tokens.Shape.{ends, is_use_strict, is_attributes, is_exportable}
 use Rattle.grammar_spec.specs.Tokens.Operators.{assignment_level, closed_end, plain_end, exports_end, source_end}
 use Rattle.grammar_spec.specs.Reader.Source.{Fault, ◌>>=◌, placed, bound, unexpected, Stream, State, input, past, operand, at, spanned, any_word, go_on, finished, Inner, is_nil, ended}
@@ -116,37 +116,37 @@ module _ {S : Type 0} {m : Stream S} {Live : Pairing m} {modular : Bool} (w : Pa
   unfolding star_import
   star_import_backed s c ce sl' = back_eat w {s = s} mul_kind (refl, refl, refl, refl) refl sl' _ _ (λ j1. back_word w {s = (past m s)} c as_kind (refl, refl, refl, refl) refl (live_past w j1) _ _ (λ j2. back_then _ _ _ _ (local_by_backed (past m (past m s)) c ce (live_past w j2)) (λ l3a l3s l3u. back_ok {s = l3s} _ _ l3u.live (λ qs' h'. ap (λ (z' : ℕ). import_star_as_specifier ((span z' (m.last l3s.source))) l3a) (lo_was w (join (join (token w j1) (token w j2)) l3u) qs' h')) ((λ i'. absurd (true≢false i')), (λ i'. absurd (true≢false i'))))))
 
-  pub import_end_backed : {e' : ℕ} (s : State S) (c : Code) (ce : c.context.module_ ≡ modular) (start : State S) (startu : Path m Live start s) (xs : List Tree) (sl' : Live.live s.source) → Backed m Live closed true e' s (import_end m im c start xs s) (λ r'. import_end lm il c (was m Live startu r') xs r')
+  pub import_end_backed : {e' : ℕ} (s : State S) (c : Code) (ce : c.context.module_ ≡ modular) (start : State S) (startu : Path m Live start s) (xs : List Tree) (sl' : Live.live s.source) → Backed m Live closed true e' s (import_end m im c (lo (input m start)) xs s) (λ r'. import_end lm il c (lo (input lm (was m Live startu r'))) xs r')
   unfolding import_end
   import_end_backed s c ce start startu xs sl' = back_word w {s = s} c from_kind (refl, refl, refl, refl) refl sl' _ _ (λ j1. back_then _ _ _ _ (source_by_backed (past m s) c ce (live_past w j1)) (λ f2a f2s f2u. back_ok {s = f2s} _ _ f2u.live (λ qs' h'. ap (λ (z' : ℕ). import_decl ((span z' (m.last f2s.source))) (pack xs) f2a.src f2a.with_) (lo_was w (join (join startu (token w j1)) f2u) qs' h')) ((λ i'. absurd (true≢false i')), (λ i'. absurd (true≢false i')))))
 
-  pub import_rest_backed : {e' : ℕ} (s : State S) (c : Code) (ce : c.context.module_ ≡ modular) (start : State S) (startu : Path m Live start s) (xs : List Tree) (sl' : Live.live s.source) → Backed m Live closed true e' s (import_rest m im c start xs s) (λ r'. import_rest lm il c (was m Live startu r') xs r')
+  pub import_rest_backed : {e' : ℕ} (s : State S) (c : Code) (ce : c.context.module_ ≡ modular) (start : State S) (startu : Path m Live start s) (xs : List Tree) (sl' : Live.live s.source) → Backed m Live closed true e' s (import_rest m im c (lo (input m start)) xs s) (λ r'. import_rest lm il c (lo (input lm (was m Live startu r'))) xs r')
   unfolding import_rest
   import_rest_backed s c ce start startu xs sl' = back_at w {s = s} mul_kind (refl, refl, refl, refl) refl sl' _ _ _ _ (λ j1. back_then _ _ _ _ (star_import_backed s c ce sl') (λ x2a x2s x2u. import_end_backed x2s c ce start (join startu x2u) (xs ++ x2a ∷ []) x2u.live)) (back_eat w {s = s} left_brace_kind (refl, refl, refl, refl) refl sl' _ _ (λ j4. back_then _ _ _ _ (specifiers_by_backed (past m s) true c ce (live_past w j4)) (λ ys5a ys5s ys5u. import_end_backed ys5s c ce start (join (join startu (token w j4)) ys5u) (xs ++ ys5a) ys5u.live)))
 
-  pub import_default_backed : {e' : ℕ} (s : State S) (c : Code) (ce : c.context.module_ ≡ modular) (start : State S) (startu : Path m Live start s) (j' : Here m Live s) (ns : is_slash (kind (input m s)) ≡ false) → Backed m Live closed true e' s (import_default m im c start s) (λ r'. import_default lm il c (was m Live startu r') r')
+  pub import_default_backed : {e' : ℕ} (s : State S) (c : Code) (ce : c.context.module_ ≡ modular) (start : State S) (startu : Path m Live start s) (j' : Here m Live s) (ns : is_slash (kind (input m s)) ≡ false) → Backed m Live closed true e' s (import_default m im c (lo (input m start)) s) (λ r'. import_default lm il c (lo (input lm (was m Live startu r'))) r')
   unfolding import_default
-  import_default_backed s c ce start startu j' ns = back_then _ _ _ _ (local_by_backed s c ce j'.live) (λ l1a l1s l1u. back_at w {s = l1s} comma_kind (refl, refl, refl, refl) refl l1u.live _ _ _ _ (λ j3. back_past w {s = l1s} j3 _ (λ r' q'. import_rest lm il c (was m Live (join startu l1u) r') (import_default_specifier (first lm il (was m Live l1u r')) l1a ∷ []) q') (back_same _ (λ r'. import_rest lm il c (was m Live (join (join startu l1u) (token w j3)) r') (import_default_specifier ((first m im s)) l1a ∷ []) r') (λ r'. import_rest lm il c (was m Live (join (join startu l1u) (token w j3)) r') (import_default_specifier (first lm il (was m Live (join l1u (token w j3)) r')) l1a ∷ []) r') (λ qs' h'. ap (λ (z' : Span). import_rest lm il c (was m Live (join (join startu l1u) (token w j3)) (list_at m Live (past m l1s) qs')) (import_default_specifier (z') l1a ∷ []) (list_at m Live (past m l1s) qs')) (first_was w (join l1u (token w j3)) (took_join l1u (token w j3) (took_plain w j' ns l1u)) qs' h')) (import_rest_backed (past m l1s) c ce start (join (join startu l1u) (token w j3)) (import_default_specifier (first m im s) l1a ∷ []) (live_past w j3)))) (back_same _ (λ r'. import_end lm il c (was m Live (join startu l1u) r') (import_default_specifier ((first m im s)) l1a ∷ []) r') (λ r'. import_end lm il c (was m Live (join startu l1u) r') (import_default_specifier (first lm il (was m Live l1u r')) l1a ∷ []) r') (λ qs' h'. ap (λ (z' : Span). import_end lm il c (was m Live (join startu l1u) (list_at m Live l1s qs')) (import_default_specifier (z') l1a ∷ []) (list_at m Live l1s qs')) (first_was w l1u (took_plain w j' ns l1u) qs' h')) (import_end_backed l1s c ce start (join startu l1u) (import_default_specifier (first m im s) l1a ∷ []) l1u.live)))
+  import_default_backed s c ce start startu j' ns = back_then _ _ _ _ (local_by_backed s c ce j'.live) (λ l1a l1s l1u. back_at w {s = l1s} comma_kind (refl, refl, refl, refl) refl l1u.live _ _ _ _ (λ j3. back_past w {s = l1s} j3 _ (λ r' q'. import_rest lm il c (lo (input lm (was m Live (join startu l1u) r'))) (import_default_specifier (first lm il (was m Live l1u r')) l1a ∷ []) q') (back_same _ (λ r'. import_rest lm il c (lo (input lm (was m Live (join (join startu l1u) (token w j3)) r'))) (import_default_specifier ((first m im s)) l1a ∷ []) r') (λ r'. import_rest lm il c (lo (input lm (was m Live (join (join startu l1u) (token w j3)) r'))) (import_default_specifier (first lm il (was m Live (join l1u (token w j3)) r')) l1a ∷ []) r') (λ qs' h'. ap (λ (z' : Span). import_rest lm il c (lo (input lm (was m Live (join (join startu l1u) (token w j3)) (list_at m Live (past m l1s) qs')))) (import_default_specifier (z') l1a ∷ []) (list_at m Live (past m l1s) qs')) (first_was w (join l1u (token w j3)) (took_join l1u (token w j3) (took_plain w j' ns l1u)) qs' h')) (import_rest_backed (past m l1s) c ce start (join (join startu l1u) (token w j3)) (import_default_specifier (first m im s) l1a ∷ []) (live_past w j3)))) (back_same _ (λ r'. import_end lm il c (lo (input lm (was m Live (join startu l1u) r'))) (import_default_specifier ((first m im s)) l1a ∷ []) r') (λ r'. import_end lm il c (lo (input lm (was m Live (join startu l1u) r'))) (import_default_specifier (first lm il (was m Live l1u r')) l1a ∷ []) r') (λ qs' h'. ap (λ (z' : Span). import_end lm il c (lo (input lm (was m Live (join startu l1u) (list_at m Live l1s qs')))) (import_default_specifier (z') l1a ∷ []) (list_at m Live l1s qs')) (first_was w l1u (took_plain w j' ns l1u) qs' h')) (import_end_backed l1s c ce start (join startu l1u) (import_default_specifier (first m im s) l1a ∷ []) l1u.live)))
 
   pub import_decl_by_backed : {e' : ℕ} (s : State S) (c : Code) (ce : c.context.module_ ≡ modular) (sl' : Live.live s.source) → Backed m Live closed true e' s (import_decl_by m im c s) (λ r'. import_decl_by lm il c r')
   unfolding import_decl_by
   import_decl_by_backed s c ce sl' = back_word w {s = s} c import_kind (refl, refl, refl, refl) refl sl' _ _ (λ j1. back_at w {s = (past m s)} str_kind (refl, refl, refl, refl) refl (live_past w j1) _ _ _ _ (λ j2. back_then _ _ _ _ (source_by_backed (past m s) c ce (live_past w j1)) (λ f3a f3s f3u. back_ok {s = f3s} _ _ f3u.live (λ qs' h'. ap (λ (z' : ℕ). import_decl ((span z' (m.last f3s.source))) none f3a.src f3a.with_) (lo_was w (join (token w j1) f3u) qs' h')) ((λ i'. absurd (true≢false i')), (λ i'. absurd (true≢false i'))))) (back_if w {s = (past m s)} (λ z'. is_word (kind (input lm (on [] 0 z')))) ((λ p' q' l' v'. refl), (λ p' q' l' v'. refl), (λ p' l' v'. refl)) (live_past w j1) _ _ _ _ (λ y5. import_default_backed (past m s) c ce s (token w j1) (here_by w (λ z'. is_word (kind (input lm (on [] 0 z')))) (refl, λ p' v'. refl) (past m s) (live_past w j1) y5) (word_plain (kind (input m (past m s))) y5)) (import_rest_backed (past m s) c ce s (token w j1) ([]) (live_past w j1))))
 
-  pub export_default_backed : (s : State S) (c : Code) (ce : c.context.module_ ≡ modular) (start : State S) (startu : Since m Live start) (sl' : Live.live s.source) → Backed m Live closed true closed_end s (export_default m im c start s) (λ r'. export_default lm il c (sat m Live startu r') r')
+  pub export_default_backed : (s : State S) (c : Code) (ce : c.context.module_ ≡ modular) (start : State S) (startu : Since m Live start) (sl' : Live.live s.source) → Backed m Live closed true closed_end s (export_default m im c (lo (input m start)) s) (λ r'. export_default lm il c (lo (input lm (sat m Live startu r'))) r')
   unfolding export_default
-  export_default_backed s c ce start startu sl' = back_at w {s = s} function_kind (refl, refl, refl, refl) refl sl' _ _ _ _ (λ j1. back_then _ _ _ _ (back_same _ (λ r'. function_expr_by lm il c ((was m Live (stay {s = s} sl') r')) false r') (λ r'. function_expr_by lm il c r' false r') (λ qs' h'. refl) (function_expr_by_backed w echo s c ce s (stay {s = s} sl') false sl')) (λ d2a d2s d2u. back_ok {s = d2s} _ _ d2u.live (λ qs' h'. ap (λ (z' : ℕ). export_default_decl ((span z' (m.last d2s.source))) d2a) (lo_since w (since_join w startu d2u) qs')) ((λ i'. absurd (true≢false i')), (λ i'. absurd (true≢false i'))))) (back_two w {s = s} (λ z'. starts_async lm il (on [] 0 z')) ((λ p' q' l' v'. refl), (λ p' q' l' v'. refl), (λ n' p' q' l' v'. refl), (λ n' p' q' l' v'. refl), (λ n' p' l' v'. refl)) sl' _ _ _ _ (λ y4. back_past w {s = s} (here_by w (λ z'. starts_async lm il (on [] 0 z')) (refl, λ p' v'. refl) s sl' y4) _ (λ r' q'. (function_expr_by lm il c r' true q' >>= λ d. Ok (export_default_decl (spanned lm (sat m Live startu r') d.1) d.0, d.1))) (back_then _ _ _ _ (function_expr_by_backed w echo (past m s) c ce s (token w (here_by w (λ z'. starts_async lm il (on [] 0 z')) (refl, λ p' v'. refl) s sl' y4)) true (live_past w (here_by w (λ z'. starts_async lm il (on [] 0 z')) (refl, λ p' v'. refl) s sl' y4))) (λ d5a d5s d5u. back_ok {s = d5s} _ _ d5u.live (λ qs' h'. ap (λ (z' : ℕ). export_default_decl ((span z' (m.last d5s.source))) d5a) (lo_since w (since_join w (since_join w startu (token w (here_by w (λ z'. starts_async lm il (on [] 0 z')) (refl, λ p' v'. refl) s sl' y4))) d5u) qs')) ((λ i'. absurd (true≢false i')), (λ i'. absurd (true≢false i')))))) (back_at w {s = s} class_kind (refl, refl, refl, refl) refl sl' _ _ _ _ (λ j7. back_then _ _ _ _ (class_expr_by_backed w echo s c ce sl') (λ d8a d8s d8u. back_ok {s = d8s} _ _ d8u.live (λ qs' h'. ap (λ (z' : ℕ). export_default_decl ((span z' (m.last d8s.source))) d8a) (lo_since w (since_join w startu d8u) qs')) ((λ i'. absurd (true≢false i')), (λ i'. absurd (true≢false i'))))) (back_then _ _ _ _ (echo.expr c ce assignment_level s sl') (λ e10a e10s e10u. back_end w {s = e10s} c (ends e10a) e10u.live (λ i'. inl (edge_shut w echo e10a i')) _ _ (λ r12 r12u. back_ok {s = r12} _ _ r12u.live (λ qs' h'. ap (λ (z' : ℕ). export_default_expr ((span z' (m.last r12.source))) e10a) (lo_since w (since_join w (since_join w startu e10u) r12u) qs')) ((λ i'. absurd (true≢false i')), (λ i'. absurd (true≢false i'))))))))
+  export_default_backed s c ce start startu sl' = back_at w {s = s} function_kind (refl, refl, refl, refl) refl sl' _ _ _ _ (λ j1. back_then _ _ _ _ (back_same _ (λ r'. function_expr_by lm il c (lo (input lm ((was m Live (stay {s = s} sl') r')))) false r') (λ r'. function_expr_by lm il c (lo (input lm r')) false r') (λ qs' h'. refl) (function_expr_by_backed w echo s c ce s (stay {s = s} sl') false sl')) (λ d2a d2s d2u. back_ok {s = d2s} _ _ d2u.live (λ qs' h'. ap (λ (z' : ℕ). export_default_decl ((span z' (m.last d2s.source))) d2a) (lo_since w (since_join w startu d2u) qs')) ((λ i'. absurd (true≢false i')), (λ i'. absurd (true≢false i'))))) (back_two w {s = s} (λ z'. starts_async lm il (on [] 0 z')) ((λ p' q' l' v'. refl), (λ p' q' l' v'. refl), (λ n' p' q' l' v'. refl), (λ n' p' q' l' v'. refl), (λ n' p' l' v'. refl)) sl' _ _ _ _ (λ y4. back_past w {s = s} (here_by w (λ z'. starts_async lm il (on [] 0 z')) (refl, λ p' v'. refl) s sl' y4) _ (λ r' q'. (function_expr_by lm il c (lo (input lm r')) true q' >>= λ d. Ok (export_default_decl (spanned lm (lo (input lm (sat m Live startu r'))) d.1) d.0, d.1))) (back_then _ _ _ _ (function_expr_by_backed w echo (past m s) c ce s (token w (here_by w (λ z'. starts_async lm il (on [] 0 z')) (refl, λ p' v'. refl) s sl' y4)) true (live_past w (here_by w (λ z'. starts_async lm il (on [] 0 z')) (refl, λ p' v'. refl) s sl' y4))) (λ d5a d5s d5u. back_ok {s = d5s} _ _ d5u.live (λ qs' h'. ap (λ (z' : ℕ). export_default_decl ((span z' (m.last d5s.source))) d5a) (lo_since w (since_join w (since_join w startu (token w (here_by w (λ z'. starts_async lm il (on [] 0 z')) (refl, λ p' v'. refl) s sl' y4))) d5u) qs')) ((λ i'. absurd (true≢false i')), (λ i'. absurd (true≢false i')))))) (back_at w {s = s} class_kind (refl, refl, refl, refl) refl sl' _ _ _ _ (λ j7. back_then _ _ _ _ (class_expr_by_backed w echo s c ce sl') (λ d8a d8s d8u. back_ok {s = d8s} _ _ d8u.live (λ qs' h'. ap (λ (z' : ℕ). export_default_decl ((span z' (m.last d8s.source))) d8a) (lo_since w (since_join w startu d8u) qs')) ((λ i'. absurd (true≢false i')), (λ i'. absurd (true≢false i'))))) (back_then _ _ _ _ (echo.expr c ce assignment_level s sl') (λ e10a e10s e10u. back_end w {s = e10s} c (ends e10a) e10u.live (λ i'. inl (edge_shut w echo e10a i')) _ _ (λ r12 r12u. back_ok {s = r12} _ _ r12u.live (λ qs' h'. ap (λ (z' : ℕ). export_default_expr ((span z' (m.last r12.source))) e10a) (lo_since w (since_join w (since_join w startu e10u) r12u) qs')) ((λ i'. absurd (true≢false i')), (λ i'. absurd (true≢false i'))))))))
 
-  pub export_star_backed : {e' : ℕ} (s : State S) (c : Code) (ce : c.context.module_ ≡ modular) (start : State S) (startu : Path m Live start s) (sl' : Live.live s.source) → Backed m Live closed true e' s (export_star m im c start s) (λ r'. export_star lm il c (was m Live startu r') r')
+  pub export_star_backed : {e' : ℕ} (s : State S) (c : Code) (ce : c.context.module_ ≡ modular) (start : State S) (startu : Path m Live start s) (sl' : Live.live s.source) → Backed m Live closed true e' s (export_star m im c (lo (input m start)) s) (λ r'. export_star lm il c (lo (input lm (was m Live startu r'))) r')
   unfolding export_star
-  export_star_backed s c ce start startu sl' = back_eat w {s = s} mul_kind (refl, refl, refl, refl) refl sl' _ _ (λ j1. back_at w {s = (past m s)} as_kind (refl, refl, refl, refl) refl (live_past w j1) _ _ _ _ (λ j2. back_word w {s = (past m s)} c as_kind (refl, refl, refl, refl) refl (live_past w j1) _ _ (λ j3. back_then _ _ _ _ (export_name_by_backed (past m (past m s)) (live_past w j3)) (λ n4a n4s n4u. back_word w {s = n4s} c from_kind (refl, refl, refl, refl) refl n4u.live _ _ (λ j6. back_then _ _ _ _ (source_by_backed (past m n4s) c ce (live_past w j6)) (λ x7a x7s x7u. back_ok {s = x7s} _ _ x7u.live (λ qs' h'. ap (λ (z' : ℕ). named_export ((span z' (m.last x7s.source))) (more (export_namespace_specifier ((spanned lm (was m Live (join (join (join (join (token w j1) (token w j3)) n4u) (token w j6)) x7u) (list_at m Live x7s qs')) (was m Live (join (token w j6) x7u) (list_at m Live x7s qs')))) n4a) none) x7a.src x7a.with_) (lo_was w (join (join (join (join (join startu (token w j1)) (token w j3)) n4u) (token w j6)) x7u) qs' h') ∙ (ap (λ (z' : ℕ). named_export ((spanned m start x7s)) (more (export_namespace_specifier ((span z' (m.last n4s.source))) n4a) none) x7a.src x7a.with_) (lo_was w (join (join (join (join (token w j1) (token w j3)) n4u) (token w j6)) x7u) qs' h'))) ((λ i'. absurd (true≢false i')), (λ i'. absurd (true≢false i')))))))) (back_word w {s = (past m s)} c from_kind (refl, refl, refl, refl) refl (live_past w j1) _ _ (λ j9. back_then _ _ _ _ (source_by_backed (past m (past m s)) c ce (live_past w j9)) (λ x10a x10s x10u. back_ok {s = x10s} _ _ x10u.live (λ qs' h'. ap (λ (z' : ℕ). export_all ((span z' (m.last x10s.source))) x10a.src x10a.with_) (lo_was w (join (join (join startu (token w j1)) (token w j9)) x10u) qs' h')) ((λ i'. absurd (true≢false i')), (λ i'. absurd (true≢false i')))))))
+  export_star_backed s c ce start startu sl' = back_eat w {s = s} mul_kind (refl, refl, refl, refl) refl sl' _ _ (λ j1. back_at w {s = (past m s)} as_kind (refl, refl, refl, refl) refl (live_past w j1) _ _ _ _ (λ j2. back_word w {s = (past m s)} c as_kind (refl, refl, refl, refl) refl (live_past w j1) _ _ (λ j3. back_then _ _ _ _ (export_name_by_backed (past m (past m s)) (live_past w j3)) (λ n4a n4s n4u. back_word w {s = n4s} c from_kind (refl, refl, refl, refl) refl n4u.live _ _ (λ j6. back_then _ _ _ _ (source_by_backed (past m n4s) c ce (live_past w j6)) (λ x7a x7s x7u. back_ok {s = x7s} _ _ x7u.live (λ qs' h'. ap (λ (z' : ℕ). named_export ((span z' (m.last x7s.source))) (more (export_namespace_specifier ((spanned lm (lo (input lm (was m Live (join (join (join (join (token w j1) (token w j3)) n4u) (token w j6)) x7u) (list_at m Live x7s qs')))) (was m Live (join (token w j6) x7u) (list_at m Live x7s qs')))) n4a) none) x7a.src x7a.with_) (lo_was w (join (join (join (join (join startu (token w j1)) (token w j3)) n4u) (token w j6)) x7u) qs' h') ∙ (ap (λ (z' : ℕ). named_export ((spanned m (lo (input m start)) x7s)) (more (export_namespace_specifier ((span z' (m.last n4s.source))) n4a) none) x7a.src x7a.with_) (lo_was w (join (join (join (join (token w j1) (token w j3)) n4u) (token w j6)) x7u) qs' h'))) ((λ i'. absurd (true≢false i')), (λ i'. absurd (true≢false i')))))))) (back_word w {s = (past m s)} c from_kind (refl, refl, refl, refl) refl (live_past w j1) _ _ (λ j9. back_then _ _ _ _ (source_by_backed (past m (past m s)) c ce (live_past w j9)) (λ x10a x10s x10u. back_ok {s = x10s} _ _ x10u.live (λ qs' h'. ap (λ (z' : ℕ). export_all ((span z' (m.last x10s.source))) x10a.src x10a.with_) (lo_was w (join (join (join startu (token w j1)) (token w j9)) x10u) qs' h')) ((λ i'. absurd (true≢false i')), (λ i'. absurd (true≢false i')))))))
 
-  pub export_list_backed : {e' : ℕ} (s : State S) (c : Code) (ce : c.context.module_ ≡ modular) (start : State S) (startu : Path m Live start s) (sl' : Live.live s.source) → Backed m Live closed true e' s (export_list m im c start s) (λ r'. export_list lm il c (was m Live startu r') r')
+  pub export_list_backed : {e' : ℕ} (s : State S) (c : Code) (ce : c.context.module_ ≡ modular) (start : State S) (startu : Path m Live start s) (sl' : Live.live s.source) → Backed m Live closed true e' s (export_list m im c (lo (input m start)) s) (λ r'. export_list lm il c (lo (input lm (was m Live startu r'))) r')
   unfolding export_list
   export_list_backed s c ce start startu sl' = back_eat w {s = s} left_brace_kind (refl, refl, refl, refl) refl sl' _ _ (λ j1. back_then _ _ _ _ (specifiers_by_backed (past m s) false c ce (live_past w j1)) (λ xs2a xs2s xs2u. back_at w {s = xs2s} from_kind (refl, refl, refl, refl) refl xs2u.live _ _ _ _ (λ j4. back_weak _ (back_word w {s = xs2s} c from_kind (refl, refl, refl, refl) refl xs2u.live _ _ (λ j5. back_then _ _ _ _ (source_by_backed (past m xs2s) c ce (live_past w j5)) (λ x6a x6s x6u. back_ok {s = x6s} _ _ x6u.live (λ qs' h'. ap (λ (z' : ℕ). named_export ((span z' (m.last x6s.source))) (pack xs2a) x6a.src x6a.with_) (lo_was w (join (join (join (join startu (token w j1)) xs2u) (token w j5)) x6u) qs' h')) ((λ i'. absurd (true≢false i')), (λ i'. absurd (true≢false i'))))))) (back_end w {s = xs2s} c exports_end xs2u.live (λ i'. absurd (true≢false i')) _ _ (λ e8 e8u. back_ok {s = e8} _ _ e8u.live (λ qs' h'. ap (λ (z' : ℕ). named_export ((span z' (m.last e8.source))) (pack xs2a) absent absent) (lo_was w (join (join (join startu (token w j1)) xs2u) e8u) qs' h')) ((λ i'. absurd (true≢false i')), (λ i'. absurd (true≢false i')))))))
 
   pub export_by_backed : {e' : ℕ} (s : State S) (c : Code) (ce : c.context.module_ ≡ modular) (sl' : Live.live s.source) → Backed m Live closed true e' s (export_by m im c s) (λ r'. export_by lm il c r')
   unfolding export_by
-  export_by_backed s c ce sl' = back_word w {s = s} c export_kind (refl, refl, refl, refl) refl sl' _ _ (λ j1. back_at w {s = (past m s)} default_kind (refl, refl, refl, refl) refl (live_past w j1) _ _ _ _ (λ j2. back_word w {s = (past m s)} c default_kind (refl, refl, refl, refl) refl (live_past w j1) _ _ (λ j3. back_operand w {s = (past m (past m s))} _ (λ r'. export_default lm il c (was m Live (join (token w j1) (token w j3)) r') (r')) (live_past w j3) (export_default_backed (operand m (past m (past m s))) c ce s (since_two w j1 j3) (w.order.live_operand (past m (past m s)).source (live_past w j3))))) (back_at w {s = (past m s)} mul_kind (refl, refl, refl, refl) refl (live_past w j1) _ _ _ _ (λ j4. export_star_backed (past m s) c ce s (token w j1) (live_past w j1)) (back_at w {s = (past m s)} left_brace_kind (refl, refl, refl, refl) refl (live_past w j1) _ _ _ _ (λ j5. export_list_backed (past m s) c ce s (token w j1) (live_past w j1)) (back_two w {s = (past m s)} (λ z'. starts_declaration lm il (in_list c) (on [] 0 z')) ((λ p' q' l' v'. refl), (λ p' q' l' v'. refl), (λ n' p' q' l' v'. refl), (λ n' p' q' l' v'. refl), (λ n' p' l' v'. refl)) (live_past w j1) _ _ _ _ (λ y6. back_then _ _ _ _ (echo.stmt (in_list c) ce (past m s) (live_past w j1)) (λ d7a d7s d7u. back_test (is_exportable d7a) (λ r'. is_exportable d7a) _ _ _ _ (λ qs' h'. refl) (λ y9. back_ok {s = d7s} _ _ d7u.live (λ qs' h'. ap (λ (z' : ℕ). export_decl ((span z' (m.last d7s.source))) d7a) (lo_was w (join (token w j1) d7u) qs' h')) ((λ i'. absurd (true≢false i')), (λ i'. absurd (true≢false i')))) (λ _. back_never))) (back_never)))))
+  export_by_backed s c ce sl' = back_word w {s = s} c export_kind (refl, refl, refl, refl) refl sl' _ _ (λ j1. back_at w {s = (past m s)} default_kind (refl, refl, refl, refl) refl (live_past w j1) _ _ _ _ (λ j2. back_word w {s = (past m s)} c default_kind (refl, refl, refl, refl) refl (live_past w j1) _ _ (λ j3. back_operand w {s = (past m (past m s))} _ (λ r'. export_default lm il c (lo (input lm (was m Live (join (token w j1) (token w j3)) r'))) (r')) (live_past w j3) (export_default_backed (operand m (past m (past m s))) c ce s (since_two w j1 j3) (w.order.live_operand (past m (past m s)).source (live_past w j3))))) (back_at w {s = (past m s)} mul_kind (refl, refl, refl, refl) refl (live_past w j1) _ _ _ _ (λ j4. export_star_backed (past m s) c ce s (token w j1) (live_past w j1)) (back_at w {s = (past m s)} left_brace_kind (refl, refl, refl, refl) refl (live_past w j1) _ _ _ _ (λ j5. export_list_backed (past m s) c ce s (token w j1) (live_past w j1)) (back_two w {s = (past m s)} (λ z'. starts_declaration lm il (in_list c) (on [] 0 z')) ((λ p' q' l' v'. refl), (λ p' q' l' v'. refl), (λ n' p' q' l' v'. refl), (λ n' p' q' l' v'. refl), (λ n' p' l' v'. refl)) (live_past w j1) _ _ _ _ (λ y6. back_then _ _ _ _ (echo.stmt (in_list c) ce (past m s) (live_past w j1)) (λ d7a d7s d7u. back_test (is_exportable d7a) (λ r'. is_exportable d7a) _ _ _ _ (λ qs' h'. refl) (λ y9. back_ok {s = d7s} _ _ d7u.live (λ qs' h'. ap (λ (z' : ℕ). export_decl ((span z' (m.last d7s.source))) d7a) (lo_was w (join (token w j1) d7u) qs' h')) ((λ i'. absurd (true≢false i')), (λ i'. absurd (true≢false i')))) (λ _. back_never))) (back_never)))))
 
   pub item_by_backed : (s : State S) (modules : Bool) (c : Code) (ce : c.context.module_ ≡ modular) (sl' : Live.live s.source) → Backed m Live closed true closed_end s (item_by m im modules c s) (λ r'. item_by lm il modules c r')
   unfolding item_by
@@ -165,7 +165,7 @@ module _ {S : Type 0} {m : Stream S} {Live : Pairing m} {modular : Bool} (w : Pa
   unfolding program_step program_item
   program_step_hands modules b s e = hands_if (ended m s) _ _ (record { so = tt }) (hands_then (item_by m im modules (in_list b.code) (operand m s)) _ (λ t. hands_if (b.starts && is_use_strict t.0) _ _ (record { so = e }) (record { so = e })))
 
-  pub program_rest_backed : (s : State S) (modules : Bool) (c : Code) (ce : c.context.module_ ≡ modular) (start : State S) (startu : Path m Live start s) (l : Option (List ℕ)) (sl' : Live.live s.source) → Backed m Live closed false closed_end s (program_rest m im modules c start l s) (λ r'. program_rest lm il modules c (was m Live startu r') l r')
+  pub program_rest_backed : (s : State S) (modules : Bool) (c : Code) (ce : c.context.module_ ≡ modular) (start : State S) (startu : Path m Live start s) (l : Option (List ℕ)) (sl' : Live.live s.source) → Backed m Live closed false closed_end s (program_rest m im modules c (lo (input m start)) l s) (λ r'. program_rest lm il modules c (lo (input lm (was m Live startu r'))) l r')
   unfolding program_rest
   program_rest_backed s modules c ce start startu l sl' = back_then _ _ _ _ (back_iterate_in w (λ (z : Body). z.code.context.module_ ≡ modular) closed false s (λ r' x q'. program_step lm il modules x q') (program_step m im modules) (λ x t u p. program_step_steps t modules x p u.live) (λ x t p. program_step_hands modules x t p) (record { items = []; code = c; starts = true }) ce sl')
       (λ b0 b1 u. back_ok {s = b1} _ _ u.live (λ qs h. ap (λ (z : ℕ). program_tree m im modules (span z (m.last b1.source)) (pack b0.items) l) (lo_was w (join startu u) qs h)) ((λ i'. absurd (true≢false i')), (λ i'. absurd (true≢false i'))))
@@ -173,13 +173,13 @@ module _ {S : Type 0} {m : Stream S} {Live : Pairing m} {modular : Bool} (w : Pa
   pub program_by_backed : (s : State S) (modules : Bool) (c : Code) (ce : c.context.module_ ≡ modular) (sl' : Live.live s.source) → Backed m Live closed false closed_end s (program_by m im modules c s) (λ r'. program_by lm il modules c r')
   unfolding program_by
   program_by_backed s modules c ce sl' = back_at w {s = s} shebang_kind (refl, refl, refl, refl) refl sl' _ _ _ _
-      (λ j. back_weak _ (back_past w {s = s} j _ (λ r' q'. elim (line_of lm il (content (input lm r'))) [ None ↦ unexpected lm r' | Some l ↦ program_rest lm il modules c r' (Some l) q' ]) (by_line j (line_of m im (content (input m s))) refl)))
-      (back_same _ (λ r'. program_rest lm il modules c (was m Live (stay {s = s} sl') r') None r') (λ r'. program_rest lm il modules c r' None r') (λ qs h. refl) (program_rest_backed s modules c ce s (stay {s = s} sl') None sl'))
+      (λ j. back_weak _ (back_past w {s = s} j _ (λ r' q'. elim (line_of lm il (content (input lm r'))) [ None ↦ unexpected lm r' | Some l ↦ program_rest lm il modules c (lo (input lm r')) (Some l) q' ]) (by_line j (line_of m im (content (input m s))) refl)))
+      (back_same _ (λ r'. program_rest lm il modules c (lo (input lm (was m Live (stay {s = s} sl') r'))) None r') (λ r'. program_rest lm il modules c (lo (input lm r')) None r') (λ qs h. refl) (program_rest_backed s modules c ce s (stay {s = s} sl') None sl'))
     where
-      by_line : (j : Here m Live s) (o : Option (List ℕ)) → line_of m im (content (input m s)) ≡ o → Backed m Live {A = Tree} closed false closed_end (past m s) (elim o [ None ↦ unexpected m s | Some l ↦ program_rest m im modules c s (Some l) (past m s) ])
-          (λ q'. elim (line_of lm il (content (input lm (was m Live (token w j) q')))) [ None ↦ unexpected lm (was m Live (token w j) q') | Some l ↦ program_rest lm il modules c (was m Live (token w j) q') (Some l) q' ])
+      by_line : (j : Here m Live s) (o : Option (List ℕ)) → line_of m im (content (input m s)) ≡ o → Backed m Live {A = Tree} closed false closed_end (past m s) (elim o [ None ↦ unexpected m s | Some l ↦ program_rest m im modules c (lo (input m s)) (Some l) (past m s) ])
+          (λ q'. elim (line_of lm il (content (input lm (was m Live (token w j) q')))) [ None ↦ unexpected lm (was m Live (token w j) q') | Some l ↦ program_rest lm il modules c (lo (input lm (was m Live (token w j) q'))) (Some l) q' ])
       by_line j None e = back_never
-      by_line j (Some l) e = back_same _ (λ q'. program_rest lm il modules c (was m Live (token w j) q') (Some l) q') (λ q'. elim (line_of lm il (content (input lm (was m Live (token w j) q')))) [ None ↦ unexpected lm (was m Live (token w j) q') | Some l ↦ program_rest lm il modules c (was m Live (token w j) q') (Some l) q' ])
-          (λ qs h. let q = list_at m Live (past m s) qs in ap (λ (z : Option (List ℕ)). elim z [ None ↦ unexpected lm (was m Live (token w j) q) | Some l ↦ program_rest lm il modules c (was m Live (token w j) q) (Some l) q ])
+      by_line j (Some l) e = back_same _ (λ q'. program_rest lm il modules c (lo (input lm (was m Live (token w j) q'))) (Some l) q') (λ q'. elim (line_of lm il (content (input lm (was m Live (token w j) q')))) [ None ↦ unexpected lm (was m Live (token w j) q') | Some l ↦ program_rest lm il modules c (lo (input lm (was m Live (token w j) q'))) (Some l) q' ])
+          (λ qs h. let q = list_at m Live (past m s) qs in ap (λ (z : Option (List ℕ)). elim z [ None ↦ unexpected lm (was m Live (token w j) q) | Some l ↦ program_rest lm il modules c (lo (input lm (was m Live (token w j) q))) (Some l) q ])
           (same_line m im il (content (input lm (was m Live (token w j) q))) ∙ (ap (λ (z : Content). line_of m im z) (content_was w (token w j) (took_token w j) qs h) ∙ e)))
           (program_rest_backed (past m s) modules c ce s (token w j) (Some l) (live_past w j))

@@ -5,7 +5,7 @@ use Rattle.base_token.specs.declared.place.Span.{Span}
 use Rattle.base_token.specs.Kinds.{div_kind, div_assign_kind, arrow_kind, hash_kind, dot_kind, dot_dot_dot_kind, left_paren_kind, right_paren_kind, left_bracket_kind, right_bracket_kind, left_brace_kind, right_brace_kind, comma_kind, back_quote_kind, template_kind, colon_kind, dollar_brace_kind, question_mark_kind, str_kind, num_kind, big_int_kind, regex_kind, mul_kind, assign_kind, null_kind, true_kind, false_kind, await_kind, function_kind, class_kind, new_kind, this_kind, super_kind, import_kind, yield_kind, in_kind, plus_plus_kind, minus_minus_kind, async_kind, meta_kind, target_kind, get_kind, set_kind}
 use Rattle.base_token.specs.Tokens.{Content, Quoted, Pattern, Numeral, BigNumeral}
 use Rattle.tree_spec.specs.Tree.{Tree, none, pack, function, ident_name, computed_prop_name, private_name, this_expr, array_lit, object_lit, fn_expr, unary_expr, update_expr, bin_expr, assign_expr, member_expr, super_prop_expr, cond_expr, call_expr, new_expr, ident, tpl, tagged_tpl, arrow_expr, class_expr, yield_expr, meta_prop_expr, await_expr, paren_expr, opt_chain_expr, opt_call, super, import, expr_or_spread, spread_element, key_value_prop, assign_prop, getter_prop, setter_prop, method_prop, str_lit, bool_lit, null_lit, number_lit, big_int_lit, regex_lit, binding_ident, assign_pat, rest_pat, param, absent, list}
-use Rattle.grammar_spec.specs.Tokens.Input.{PlacedToken, Input, Code, kind, kind_of, kind2, brk, break_of, brk2, lo, dots_at, text, content, span, is_word, barred, has_in, with_in, in_list, by, in_body, in_arrow, turned_strict}
+use Rattle.grammar_spec.specs.Tokens.Input.{PlacedToken, Input, Code, kind, kind_of, kind2, brk, break_of, brk2, lo, dots_at, text, content, span, is_word, barred, has_in, with_in, in_list, by, in_body, in_arrow, turned_strict, first_span}
 use Rattle.grammar_spec.specs.Tokens.Operators.{closed_end, expression_level, assignment_level, coalesce_level, unary_level, new_level, call_level, member_level, binary_level, right_level, is_assign_op, operates, goes_expr, between, other_end}
 use Rattle.grammar_spec.specs.Tokens.Shape.{level, ends, fits_left, is_chain, is_cooked}
 use Rattle.grammar_spec.specs.Reader.Source.{Fault, Unexpected, unexpected, ◌>>=◌, Stream, State, input, past, operand, spanned, at, is_name, name, Step, go_on, finished, Inner}
@@ -46,7 +46,7 @@ module _ {S : Type 0} {m : Stream S} {Live : S → Type 0} {modular : Bool} (w :
 
   pub element_by_told : (k : Ceiling) (c : Code) (ce : c.context.module_ ≡ modular) (s : State S) (s' : State Input) (sh : Beside m Live k s s') → Told m Live k (element_by lm il c s') (element_by m im c s)
   unfolding element_by
-  element_by_told k c ce s s' sh = told_at w k dot_dot_dot_kind (refl, refl, refl, refl) s s' sh _ _ _ _ (λ j1. told_then w k _ _ _ _ (told.expr k (with_in c) ce assignment_level (past m s) (past lm s') j1.after) (λ e0 e1 e1' e1h. told_ok w k _ _ e1 e1' e1h (ap (λ (z : Span). expr_or_spread z (Some (first lm il s')) e0) (span_same w k k s e1 s' e1' sh e1h) ∙ (ap (λ (z : Span). expr_or_spread (spanned m s e1) (Some z) e0) (first_same w k s s' j1))))) (told_then w k _ _ _ _ (told.expr k (with_in c) ce assignment_level s s' sh) (λ e0 e1 e1' e1h. told_ok w k _ _ e1 e1' e1h (ap (λ (z : Span). expr_or_spread z None e0) (span_same w k k s e1 s' e1' sh e1h))))
+  element_by_told k c ce s s' sh = told_at w k dot_dot_dot_kind (refl, refl, refl, refl) s s' sh _ _ _ _ (λ j1. told_then w k _ _ _ _ (told.expr k (with_in c) ce assignment_level (past m s) (past lm s') j1.after) (λ e0 e1 e1' e1h. told_ok w k _ _ e1 e1' e1h (ap (λ (z : Span). expr_or_spread z (Some (first lm il s')) e0) (span_same w k k s e1 s' e1' sh e1h) ∙ (ap (λ (z : Span). expr_or_spread (spanned m (lo (input m s)) e1) (Some z) e0) (first_same w k s s' j1))))) (told_then w k _ _ _ _ (told.expr k (with_in c) ce assignment_level s s' sh) (λ e0 e1 e1' e1h. told_ok w k _ _ e1 e1' e1h (ap (λ (z : Span). expr_or_spread z None e0) (span_same w k k s e1 s' e1' sh e1h))))
 
   pub after_element_told : (k : Ceiling) (close : ℕ) (shut : Plain close) (items : List Tree) (s : State S) (s' : State Input) (sh : Beside m Live k s s') → Told m Live k (after_element lm il close items s') (after_element m im close items s)
   unfolding after_element
@@ -94,7 +94,7 @@ module _ {S : Type 0} {m : Stream S} {Live : S → Type 0} {modular : Bool} (w :
 
   pub parameter_by_told : (k : Ceiling) (c : Code) (ce : c.context.module_ ≡ modular) (s : State S) (s' : State Input) (sh : Beside m Live k s s') → Told m Live k (parameter_by lm il c s') (parameter_by m im c s)
   unfolding parameter_by
-  parameter_by_told k c ce s s' sh = told_at w k dot_dot_dot_kind (refl, refl, refl, refl) s s' sh _ _ _ _ (λ j1. told_then w k _ _ _ _ (told.pat k (with_in c) ce (past m s) (past lm s') j1.after) (λ p0 p1 p1' p1h. told_ok w k _ _ p1 p1' p1h (ap (λ (z : Span). param z none (rest_pat z (dots_at (lo (input lm s'))) p0)) (span_same w k k s p1 s' p1' sh p1h) ∙ (ap (λ (z : ℕ). param (spanned m s p1) none (rest_pat (spanned m s p1) (dots_at z) p0)) (lo_same w k s s' sh))))) (told_then w k _ _ _ _ (told.pat k (with_in c) ce s s' sh) (λ p0 p1 p1' p1h. told_at w k assign_kind (refl, refl, refl, refl) p1 p1' p1h _ _ _ _ (λ j2. told_then w k _ _ _ _ (told.expr k (with_in c) ce assignment_level (past m p1) (past lm p1') j2.after) (λ e0 e1 e1' e1h. told_ok w k _ _ e1 e1' e1h (ap (λ (z : Span). param z none (assign_pat z p0 e0)) (span_same w k k s e1 s' e1' sh e1h)))) (told_ok w k _ _ p1 p1' p1h (ap (λ (z : Span). param z none p0) (span_same w k k s p1 s' p1' sh p1h)))))
+  parameter_by_told k c ce s s' sh = told_at w k dot_dot_dot_kind (refl, refl, refl, refl) s s' sh _ _ _ _ (λ j1. told_then w k _ _ _ _ (told.pat k (with_in c) ce (past m s) (past lm s') j1.after) (λ p0 p1 p1' p1h. told_ok w k _ _ p1 p1' p1h (ap (λ (z : Span). param z none (rest_pat z (dots_at (lo (input lm s'))) p0)) (span_same w k k s p1 s' p1' sh p1h) ∙ (ap (λ (z : ℕ). param (spanned m (lo (input m s)) p1) none (rest_pat (spanned m (lo (input m s)) p1) (dots_at z) p0)) (lo_same w k s s' sh))))) (told_then w k _ _ _ _ (told.pat k (with_in c) ce s s' sh) (λ p0 p1 p1' p1h. told_at w k assign_kind (refl, refl, refl, refl) p1 p1' p1h _ _ _ _ (λ j2. told_then w k _ _ _ _ (told.expr k (with_in c) ce assignment_level (past m p1) (past lm p1') j2.after) (λ e0 e1 e1' e1h. told_ok w k _ _ e1 e1' e1h (ap (λ (z : Span). param z none (assign_pat z p0 e0)) (span_same w k k s e1 s' e1' sh e1h)))) (told_ok w k _ _ p1 p1' p1h (ap (λ (z : Span). param z none p0) (span_same w k k s p1 s' p1' sh p1h)))))
 
   pub parameter_step_told : (k : Ceiling) (c : Code) (ce : c.context.module_ ≡ modular) (ps : List Tree) (s : State S) (s' : State Input) (sh : Beside m Live k s s') → Told m Live k (parameter_step lm il c ps s') (parameter_step m im c ps s)
   unfolding parameter_step
@@ -126,11 +126,11 @@ module _ {S : Type 0} {m : Stream S} {Live : S → Type 0} {modular : Bool} (w :
 
   pub setter_by_told : (k : Ceiling) (c : Code) (ce : c.context.module_ ≡ modular) (s : State S) (s' : State Input) (sj : Joined m Live k s s') → Told m Live k (setter_by lm il c s') (setter_by m im c s)
   unfolding setter_by
-  setter_by_told k c ce s s' sj = told_then w k _ _ _ _ (key_by_told k c ce (past m s) (past lm s') sj.after) (λ k0 k1 k1' k1h. told_then w k _ _ _ _ (setter_parameter_told k (in_body false false c) ce k1 k1' k1h) (λ p0 p1 p1' p1h. told_then w k _ _ _ _ (told.body k (in_body false false c) ce p1 p1' p1h) (λ b0 b1 b1' b1h. told_ok w k _ _ b1 b1' b1h (ap (λ (z : Span). setter_prop z k0 (pattern_of lm il p0) b0) (span_same w k k s b1 s' b1' sj.base b1h) ∙ (ap (λ (z : Tree). setter_prop (spanned m s b1) k0 z b0) (same_pattern m im il p0))))))
+  setter_by_told k c ce s s' sj = told_then w k _ _ _ _ (key_by_told k c ce (past m s) (past lm s') sj.after) (λ k0 k1 k1' k1h. told_then w k _ _ _ _ (setter_parameter_told k (in_body false false c) ce k1 k1' k1h) (λ p0 p1 p1' p1h. told_then w k _ _ _ _ (told.body k (in_body false false c) ce p1 p1' p1h) (λ b0 b1 b1' b1h. told_ok w k _ _ b1 b1' b1h (ap (λ (z : Span). setter_prop z k0 (pattern_of lm il p0) b0) (span_same w k k s b1 s' b1' sj.base b1h) ∙ (ap (λ (z : Tree). setter_prop (spanned m (lo (input m s)) b1) k0 z b0) (same_pattern m im il p0))))))
 
   pub prop_rest_told : (k : Ceiling) (c : Code) (ce : c.context.module_ ≡ modular) (s : State S) (s' : State Input) (sh : Beside m Live k s s') (key : Tree) (r : State S) (r' : State Input) (rh : Beside m Live k r r') → Told m Live k (prop_rest lm il c s' key r') (prop_rest m im c s key r)
   unfolding prop_rest
-  prop_rest_told k c ce s s' sh key r r' rh = told_at w k colon_kind (refl, refl, refl, refl) r r' rh _ _ _ _ (λ j1. told_then w k _ _ _ _ (told.expr k (with_in c) ce assignment_level (past m r) (past lm r') j1.after) (λ v0 v1 v1' v1h. told_ok w k _ _ v1 v1' v1h (ap (λ (z : Span). key_value_prop z key v0) (span_same w k k s v1 s' v1' sh v1h)))) (told_at w k left_paren_kind (refl, refl, refl, refl) r r' rh _ _ _ _ (λ j2. told_then w k _ _ _ _ (subst (λ (z : ℕ). Told m Live k (function_by lm il c (lo (input lm s')) false false r') (function_by m im c z false false r)) (ap (λ (z : ℕ). z) (lo_same w k s s' sh)) (function_by_told k c ce (lo (input lm s')) false false r r' rh)) (λ f0 f1 f1' f1h. told_ok w k _ _ f1 f1' f1h (ap (λ (z : Span). method_prop z key f0) (span_same w k k s f1 s' f1' sh f1h)))) (told_name_of w _ _ k c s s' sh _ _ (λ n0 j3. told_at w k assign_kind (refl, refl, refl, refl) (past m s) (past lm s') j3.after _ _ _ _ (λ j4. told_then w k _ _ _ _ (told.expr k (with_in c) ce assignment_level (past m (past m s)) (past lm (past lm s')) j4.after) (λ e0 e1 e1' e1h. told_ok w k _ _ e1 e1' e1h (ap (λ (z : Span). assign_prop z (ident (first lm il s') n0) e0) (span_same w k k s e1 s' e1' sh e1h) ∙ (ap (λ (z : Span). assign_prop (spanned m s e1) (ident z n0) e0) (first_same w k s s' j3))))) (told_ok w k _ _ (past m s) (past lm s') j3.after (ap (λ (z : Span). ident z n0) (first_same w k s s' j3))))))
+  prop_rest_told k c ce s s' sh key r r' rh = told_at w k colon_kind (refl, refl, refl, refl) r r' rh _ _ _ _ (λ j1. told_then w k _ _ _ _ (told.expr k (with_in c) ce assignment_level (past m r) (past lm r') j1.after) (λ v0 v1 v1' v1h. told_ok w k _ _ v1 v1' v1h (ap (λ (z : Span). key_value_prop z key v0) (span_same w k k s v1 s' v1' sh v1h)))) (told_at w k left_paren_kind (refl, refl, refl, refl) r r' rh _ _ _ _ (λ j2. told_then w k _ _ _ _ (subst (λ (z : ℕ). Told m Live k (function_by lm il c (lo (input lm s')) false false r') (function_by m im c z false false r)) (ap (λ (z : ℕ). z) (lo_same w k s s' sh)) (function_by_told k c ce (lo (input lm s')) false false r r' rh)) (λ f0 f1 f1' f1h. told_ok w k _ _ f1 f1' f1h (ap (λ (z : Span). method_prop z key f0) (span_same w k k s f1 s' f1' sh f1h)))) (told_name_of w _ _ k c s s' sh _ _ (λ n0 j3. told_at w k assign_kind (refl, refl, refl, refl) (past m s) (past lm s') j3.after _ _ _ _ (λ j4. told_then w k _ _ _ _ (told.expr k (with_in c) ce assignment_level (past m (past m s)) (past lm (past lm s')) j4.after) (λ e0 e1 e1' e1h. told_ok w k _ _ e1 e1' e1h (ap (λ (z : Span). assign_prop z (ident (first lm il s') n0) e0) (span_same w k k s e1 s' e1' sh e1h) ∙ (ap (λ (z : Span). assign_prop (spanned m (lo (input m s)) e1) (ident z n0) e0) (first_same w k s s' j3))))) (told_ok w k _ _ (past m s) (past lm s') j3.after (ap (λ (z : Span). ident z n0) (first_same w k s s' j3))))))
 
   pub prop_by_told : (k : Ceiling) (c : Code) (ce : c.context.module_ ≡ modular) (s : State S) (s' : State Input) (sh : Beside m Live k s s') → Told m Live k (prop_by lm il c s') (prop_by m im c s)
   unfolding prop_by
@@ -167,7 +167,7 @@ module _ {S : Type 0} {m : Stream S} {Live : S → Type 0} {modular : Bool} (w :
   unfolding template_by
   template_by_told k c ce tagged s s' sj = told_then w k _ _ _ _ (told_iterate w _ _ (λ k2 x1 sx sx' sxh. quasi_step_told k2 c ce tagged x1 sx sx' sxh) k (record { exprs = []; quasis = [] }) (past m s) (past lm s') sj.after) (λ x0 x1 x1' x1h. told_ok w k _ _ x1 x1' x1h (ap (λ (z : Span). tpl z (pack x0.exprs) (pack x0.quasis)) (span_same w k k s x1 s' x1' sj.base x1h)))
 
-  pub arrow_by_told : (k : Ceiling) (c : Code) (ce : c.context.module_ ≡ modular) (startc : Ceiling) (start : State S) (start' : State Input) (starth : Beside m Live startc start start') (async : Bool) (ps : List Tree) (s : State S) (s' : State Input) (sj : Joined m Live k s s') → Told m Live k (arrow_by lm il c start' async ps s') (arrow_by m im c start async ps s)
+  pub arrow_by_told : (k : Ceiling) (c : Code) (ce : c.context.module_ ≡ modular) (startc : Ceiling) (start : State S) (start' : State Input) (starth : Beside m Live startc start start') (async : Bool) (ps : List Tree) (s : State S) (s' : State Input) (sj : Joined m Live k s s') → Told m Live k (arrow_by lm il c (lo (input lm start')) async ps s') (arrow_by m im c (lo (input m start)) async ps s)
   unfolding arrow_by
   arrow_by_told k c ce startc start start' starth async ps s s' sj = told_at w k left_brace_kind (refl, refl, refl, refl) (past m s) (past lm s') sj.after _ _ _ _ (λ j1. told_then w k _ _ _ _ (told.body k (in_list (with_in (in_arrow async c))) ce (past m s) (past lm s') sj.after) (λ b0 b1 b1' b1h. told_ok w k _ _ b1 b1' b1h (ap (λ (z : Span). arrow_expr z (pack ps) b0 async) (span_same w startc k start b1 start' b1' starth b1h)))) (told_then w k _ _ _ _ (told.expr k (in_arrow async c) ce assignment_level (past m s) (past lm s') sj.after) (λ b0 b1 b1' b1h. told_ok w k _ _ b1 b1' b1h (ap (λ (z : Span). arrow_expr z (pack ps) b0 async) (span_same w startc k start b1 start' b1' starth b1h))))
 
@@ -182,14 +182,14 @@ module _ {S : Type 0} {m : Stream S} {Live : S → Type 0} {modular : Bool} (w :
   heads_joined k l xs s s' h y = joined_at w arrow_kind (refl, refl, refl, refl) k s s' h (and_first (at lm arrow_kind s') (not (brk (input lm s'))) (and_first (arrows lm il s') (nat_le l assignment_level) (and_first (arrows_at lm il l s') (is_read (params_of lm il s'.commas xs)) y)))
 
   parens_told : (k : Ceiling) (oc : Ceiling) (open_ : State S) (open' : State Input) → Beside m Live oc open_ open' → (startc : Ceiling) (start : State S) (start' : State Input) → Beside m Live startc start start' → (n : ℕ) (t : Option (List Tree)) (s : State S) (s' : State Input) → Beside m Live k s s'
-      → Told m Live {A = Tree} k (elim t [ None ↦ unexpected lm s' | Some [] ↦ unexpected lm s' | Some (e ∷ es) ↦ Ok (paren_expr (spanned lm start' s') (joined (e ∷ es) (span (lo (input lm open')) n)), s') ])
-      (elim t [ None ↦ unexpected m s | Some [] ↦ unexpected m s | Some (e ∷ es) ↦ Ok (paren_expr (spanned m start s) (joined (e ∷ es) (span (lo (input m open_)) n)), s) ])
+      → Told m Live {A = Tree} k (elim t [ None ↦ unexpected lm s' | Some [] ↦ unexpected lm s' | Some (e ∷ es) ↦ Ok (paren_expr (spanned lm (lo (input lm start')) s') (joined (e ∷ es) (span (lo (input lm open')) n)), s') ])
+      (elim t [ None ↦ unexpected m s | Some [] ↦ unexpected m s | Some (e ∷ es) ↦ Ok (paren_expr (spanned m (lo (input m start)) s) (joined (e ∷ es) (span (lo (input m open_)) n)), s) ])
   parens_told k oc open_ open' oh startc start start' sth n None s s' h = never w k _ _
   parens_told k oc open_ open' oh startc start start' sth n (Some []) s s' h = never w k _ _
   parens_told k oc open_ open' oh startc start start' sth n (Some (e ∷ es)) s s' h = told_ok w k _ _ s s' h
-      (ap (λ (z : Span). paren_expr z (joined (e ∷ es) (span (lo (input lm open')) n))) (span_same w startc k start s start' s' sth h) ∙ ap (λ (z : ℕ). paren_expr (spanned m start s) (joined (e ∷ es) (span z n))) (lo_same w oc open_ open' oh))
+      (ap (λ (z : Span). paren_expr z (joined (e ∷ es) (span (lo (input lm open')) n))) (span_same w startc k start s start' s' sth h) ∙ ap (λ (z : ℕ). paren_expr (spanned m (lo (input m start)) s) (joined (e ∷ es) (span z n))) (lo_same w oc open_ open' oh))
 
-  pub group_end_told : (k : Ceiling) (c : Code) (ce : c.context.module_ ≡ modular) (l : ℕ) (startc : Ceiling) (start : State S) (start' : State Input) (starth : Beside m Live startc start start') (open_c : Ceiling) (open_ : State S) (open_' : State Input) (open_h : Beside m Live open_c open_ open_') (xs : Elements) (s : State S) (s' : State Input) (sh : Beside m Live k s s') → Told m Live k (group_end lm il c l start' open_' xs s') (group_end m im c l start open_ xs s)
+  pub group_end_told : (k : Ceiling) (c : Code) (ce : c.context.module_ ≡ modular) (l : ℕ) (startc : Ceiling) (start : State S) (start' : State Input) (starth : Beside m Live startc start start') (open_c : Ceiling) (open_ : State S) (open_' : State Input) (open_h : Beside m Live open_c open_ open_') (xs : Elements) (s : State S) (s' : State Input) (sh : Beside m Live k s s') → Told m Live k (group_end lm il c l (lo (input lm start')) (lo (input lm open_')) xs s') (group_end m im c l (lo (input m start)) (lo (input m open_)) xs s)
   unfolding group_end
   group_end_told k c ce l startc start start' starth open_c open_ open_' open_h xs s s' sh = told_if w k _ _ (heads_same k l xs s s' sh) _ _ _ _ (λ y. told_pure w _ _ k _ _ (params_same s'.commas s.commas (sym sh.commas) xs) _ _ (λ ps. arrow_by_told k c ce startc start start' starth false ps s s' (heads_joined k l xs s s' sh y)))
       (λ _. told_if w k xs.comma xs.comma refl _ _ _ _ (λ _. never w k _ _) (λ _. parens_told k open_c open_ open_' open_h startc start start' starth (last_end xs.items) (plain_elements xs.items) s s' sh))
@@ -198,33 +198,33 @@ module _ {S : Type 0} {m : Stream S} {Live : S → Type 0} {modular : Bool} (w :
   unfolding group_by
   group_by_told k c ce l s s' sj = told_then w k _ _ _ _ (elements_by_told k (with_in c) ce false right_paren_kind (refl, refl, refl, refl) (past m s) (past lm s') sj.after) (λ xs0 xs1 xs1' xs1h. group_end_told k c ce l k s s' sj.base k (past m s) (past lm s') sj.after xs0 xs1 xs1' xs1h)
 
-  pub ident_end_told : (k : Ceiling) (c : Code) (ce : c.context.module_ ≡ modular) (l : ℕ) (startc : Ceiling) (start : State S) (start' : State Input) (startj : Joined m Live startc start start') (n : List ℕ) (s : State S) (s' : State Input) (sh : Beside m Live k s s') → Told m Live k (ident_end lm il c l start' n s') (ident_end m im c l start n s)
+  pub ident_end_told : (k : Ceiling) (c : Code) (ce : c.context.module_ ≡ modular) (l : ℕ) (startc : Ceiling) (start : State S) (start' : State Input) (startj : Joined m Live startc start start') (n : List ℕ) (s : State S) (s' : State Input) (sh : Beside m Live k s s') → Told m Live k (ident_end lm il c l (first_span (input lm start')) n s') (ident_end m im c l (first_span (input m start)) n s)
   unfolding ident_end
-  ident_end_told k c ce l startc start start' startj n s s' sh = told_if w k _ _ (agree1 w (λ z. arrows_at lm il l (on [] 0 z)) (λ p q l v. refl) (λ p q l v. refl) (λ p l v. refl) k s s' sh) _ _ _ _ (λ y1. subst (λ (z : List Tree). Told m Live k (arrow_by lm il c start' false (binding_ident (first lm il start') (ident (first lm il start') n) ∷ []) s') (arrow_by m im c start false z s)) (ap (λ (z : Span). (binding_ident z (ident z n) ∷ [])) (first_same w startc start start' startj)) (arrow_by_told k c ce startc start start' startj.base false (binding_ident (first lm il start') (ident (first lm il start') n) ∷ []) s s' (joined_at w arrow_kind (refl, refl, refl, refl) k s s' sh (and_first _ _ (and_first _ _ y1))))) (λ _. told_ok w k _ _ s s' sh (ap (λ (z : Span). ident z n) (first_same w startc start start' startj)))
+  ident_end_told k c ce l startc start start' startj n s s' sh = told_if w k _ _ (agree1 w (λ z. arrows_at lm il l (on [] 0 z)) (λ p q l v. refl) (λ p q l v. refl) (λ p l v. refl) k s s' sh) _ _ _ _ (λ y1. subst (λ (z : List Tree). Told m Live k (arrow_by lm il c (lo (input lm start')) false (binding_ident (first lm il start') (ident (first lm il start') n) ∷ []) s') (arrow_by m im c (lo (input m start)) false z s)) (ap (λ (z : Span). (binding_ident z (ident z n) ∷ [])) (first_same w startc start start' startj)) (arrow_by_told k c ce startc start start' startj.base false (binding_ident (first lm il start') (ident (first lm il start') n) ∷ []) s s' (joined_at w arrow_kind (refl, refl, refl, refl) k s s' sh (and_first _ _ (and_first _ _ y1))))) (λ _. told_ok w k _ _ s s' sh (ap (λ (z : Span). ident z n) (first_same w startc start start' startj)))
 
   pub arguments_by_told : (k : Ceiling) (c : Code) (ce : c.context.module_ ≡ modular) (s : State S) (s' : State Input) (sh : Beside m Live k s s') → Told m Live k (arguments_by lm il c s') (arguments_by m im c s)
   unfolding arguments_by
   arguments_by_told k c ce s s' sh = told_then w k _ _ _ _ (elements_by_told k c ce false right_paren_kind (refl, refl, refl, refl) s s' sh) (λ xs0 xs1 xs1' xs1h. told_ok w k _ _ xs1 xs1' xs1h refl)
 
-  pub async_group_told : (k : Ceiling) (c : Code) (ce : c.context.module_ ≡ modular) (l : ℕ) (startc : Ceiling) (start : State S) (start' : State Input) (startj : Joined m Live startc start start') (s : State S) (s' : State Input) (sj : Joined m Live k s s') → Told m Live k (async_group lm il c l start' s') (async_group m im c l start s)
+  pub async_group_told : (k : Ceiling) (c : Code) (ce : c.context.module_ ≡ modular) (l : ℕ) (startc : Ceiling) (start : State S) (start' : State Input) (startj : Joined m Live startc start start') (s : State S) (s' : State Input) (sj : Joined m Live k s s') → Told m Live k (async_group lm il c l (first_span (input lm start')) (text (input lm start')) s') (async_group m im c l (first_span (input m start)) (text (input m start)) s)
   unfolding async_group
   async_group_told k c ce l startc start start' startj s s' sj = told_then w k _ _ _ _ (elements_by_told k (with_in c) ce false right_paren_kind (refl, refl, refl, refl) (past m s) (past lm s') sj.after) (λ xs0 xs1 xs1' xs1h.
       told_if w k _ _ (ap₂ (λ (a b : Bool). a && not b) (heads_same k l xs0 xs1 xs1' xs1h) (has_same w break_of (λ p l v. refl) k s s' sj)) _ _ _ _
       (λ y. told_pure w _ _ k _ _ (params_same xs1'.commas xs1.commas (sym xs1h.commas) xs0) _ _ (λ ps. arrow_by_told k c ce startc start start' startj.base true ps xs1 xs1' (heads_joined k l xs0 xs1 xs1' xs1h (and_first (heads_params lm il l xs0 xs1') (not (brk (input lm s'))) y))))
       (λ _. told_ok w k _ _ xs1 xs1' xs1h (ap (λ (z : Span). call_expr z (ident (first lm il start') (text (input lm start'))) (pack xs0.items)) (span_same w startc k start xs1 start' xs1' startj.base xs1h)
-      ∙ (ap (λ (z : Span). call_expr (spanned m start xs1) (ident z (text (input lm start'))) (pack xs0.items)) (first_same w startc start start' startj) ∙ ap (λ (z : List ℕ). call_expr (spanned m start xs1) (ident (first m im start) z) (pack xs0.items)) (text_as w startc start start' startj)))))
+      ∙ (ap (λ (z : Span). call_expr (spanned m (lo (input m start)) xs1) (ident z (text (input lm start'))) (pack xs0.items)) (first_same w startc start start' startj) ∙ ap (λ (z : List ℕ). call_expr (spanned m (lo (input m start)) xs1) (ident (first m im start) z) (pack xs0.items)) (text_as w startc start start' startj)))))
 
-  pub function_expr_name_told : (k : Ceiling) (c : Code) (ce : c.context.module_ ≡ modular) (startc : Ceiling) (start : State S) (start' : State Input) (starth : Beside m Live startc start start') (generator : Bool) (async : Bool) (s : State S) (s' : State Input) (sh : Beside m Live k s s') → Told m Live k (function_expr_name lm il c start' generator async s') (function_expr_name m im c start generator async s)
+  pub function_expr_name_told : (k : Ceiling) (c : Code) (ce : c.context.module_ ≡ modular) (startc : Ceiling) (start : State S) (start' : State Input) (starth : Beside m Live startc start start') (generator : Bool) (async : Bool) (s : State S) (s' : State Input) (sh : Beside m Live k s s') → Told m Live k (function_expr_name lm il c (lo (input lm start')) generator async s') (function_expr_name m im c (lo (input m start)) generator async s)
   unfolding function_expr_name
-  function_expr_name_told k c ce startc start start' starth generator async s s' sh = told_at w k left_paren_kind (refl, refl, refl, refl) s s' sh _ _ _ _ (λ j1. told_then w k _ _ _ _ (subst (λ (z : ℕ). Told m Live k (function_by lm il c (lo (input lm start')) generator async s') (function_by m im c z generator async s)) (ap (λ (z : ℕ). z) (lo_same w startc start start' starth)) (function_by_told k c ce (lo (input lm start')) generator async s s' sh)) (λ f0 f1 f1' f1h. told_ok w k _ _ f1 f1' f1h (ap (λ (z : Span). fn_expr z absent f0) (span_same w startc k start f1 start' f1' starth f1h)))) (told_name w k (by generator async c) s s' sh _ _ (λ n0 j2. told_then w k _ _ _ _ (subst (λ (z : ℕ). Told m Live k (function_by lm il c (lo (input lm start')) generator async (past lm s')) (function_by m im c z generator async (past m s))) (ap (λ (z : ℕ). z) (lo_same w startc start start' starth)) (function_by_told k c ce (lo (input lm start')) generator async (past m s) (past lm s') j2.after)) (λ f0 f1 f1' f1h. told_ok w k _ _ f1 f1' f1h (ap (λ (z : Span). fn_expr z (ident (first lm il s') n0) f0) (span_same w startc k start f1 start' f1' starth f1h) ∙ (ap (λ (z : Span). fn_expr (spanned m start f1) (ident z n0) f0) (first_same w k s s' j2))))))
+  function_expr_name_told k c ce startc start start' starth generator async s s' sh = told_at w k left_paren_kind (refl, refl, refl, refl) s s' sh _ _ _ _ (λ j1. told_then w k _ _ _ _ (subst (λ (z : ℕ). Told m Live k (function_by lm il c (lo (input lm start')) generator async s') (function_by m im c z generator async s)) (ap (λ (z : ℕ). z) (lo_same w startc start start' starth)) (function_by_told k c ce (lo (input lm start')) generator async s s' sh)) (λ f0 f1 f1' f1h. told_ok w k _ _ f1 f1' f1h (ap (λ (z : Span). fn_expr z absent f0) (span_same w startc k start f1 start' f1' starth f1h)))) (told_name w k (by generator async c) s s' sh _ _ (λ n0 j2. told_then w k _ _ _ _ (subst (λ (z : ℕ). Told m Live k (function_by lm il c (lo (input lm start')) generator async (past lm s')) (function_by m im c z generator async (past m s))) (ap (λ (z : ℕ). z) (lo_same w startc start start' starth)) (function_by_told k c ce (lo (input lm start')) generator async (past m s) (past lm s') j2.after)) (λ f0 f1 f1' f1h. told_ok w k _ _ f1 f1' f1h (ap (λ (z : Span). fn_expr z (ident (first lm il s') n0) f0) (span_same w startc k start f1 start' f1' starth f1h) ∙ (ap (λ (z : Span). fn_expr (spanned m (lo (input m start)) f1) (ident z n0) f0) (first_same w k s s' j2))))))
 
-  pub function_expr_by_told : (k : Ceiling) (c : Code) (ce : c.context.module_ ≡ modular) (startc : Ceiling) (start : State S) (start' : State Input) (starth : Beside m Live startc start start') (async : Bool) (s : State S) (s' : State Input) (sh : Beside m Live k s s') → Told m Live k (function_expr_by lm il c start' async s') (function_expr_by m im c start async s)
+  pub function_expr_by_told : (k : Ceiling) (c : Code) (ce : c.context.module_ ≡ modular) (startc : Ceiling) (start : State S) (start' : State Input) (starth : Beside m Live startc start start') (async : Bool) (s : State S) (s' : State Input) (sh : Beside m Live k s s') → Told m Live k (function_expr_by lm il c (lo (input lm start')) async s') (function_expr_by m im c (lo (input m start)) async s)
   unfolding function_expr_by
   function_expr_by_told k c ce startc start start' starth async s s' sh = told_word w k c function_kind (refl, refl, refl, refl) s s' sh _ _ (λ j1. told_then w k _ _ _ _ (star_told k (past m s) (past lm s') j1.after) (λ g0 g1 g1' g1h. function_expr_name_told k c ce startc start start' starth g0 async g1 g1' g1h))
 
   async_name : (k : Ceiling) (c : Code) (ce : c.context.module_ ≡ modular) (l : ℕ) (s : State S) (s' : State Input) → Beside m Live k s s' → (r : State S) (r' : State Input) → Beside m Live k r r' → is_async_param lm il c l r' ≡ true
-      → Told m Live k (name lm c r' >>= λ n. arrow_by lm il c s' true (binding_ident (first lm il r') (ident (first lm il r') n.0) ∷ []) n.1) (name m c r >>= λ n. arrow_by m im c s true (binding_ident (first m im r) (ident (first m im r) n.0) ∷ []) n.1)
-  async_name k c ce l s s' sh r r' rh y = told_name w k c r r' rh _ _ (λ n j. subst (λ (z : Span). Told m Live k (arrow_by lm il c s' true (binding_ident (first lm il r') (ident (first lm il r') n) ∷ []) (past lm r')) (arrow_by m im c s true (binding_ident z (ident z n) ∷ []) (past m r)))
+      → Told m Live k (name lm c r' >>= λ n. arrow_by lm il c (lo (input lm s')) true (binding_ident (first lm il r') (ident (first lm il r') n.0) ∷ []) n.1) (name m c r >>= λ n. arrow_by m im c (lo (input m s)) true (binding_ident (first m im r) (ident (first m im r) n.0) ∷ []) n.1)
+  async_name k c ce l s s' sh r r' rh y = told_name w k c r r' rh _ _ (λ n j. subst (λ (z : Span). Told m Live k (arrow_by lm il c (lo (input lm s')) true (binding_ident (first lm il r') (ident (first lm il r') n) ∷ []) (past lm r')) (arrow_by m im c (lo (input m s)) true (binding_ident z (ident z n) ∷ []) (past m r)))
       (first_same w k r r' j) (arrow_by_told k c ce k s s' sh true (binding_ident (first lm il r') (ident (first lm il r') n) ∷ []) (past m r) (past lm r') (joined_at w arrow_kind (refl, refl, refl, refl) k (past m r) (past lm r') j.after (arrow_next c l r' y))))
     where
       arrow_next : (c : Code) (l : ℕ) (r' : State Input) → is_async_param lm il c l r' ≡ true → at lm arrow_kind (past lm r') ≡ true
@@ -243,13 +243,13 @@ module _ {S : Type 0} {m : Stream S} {Live : S → Type 0} {modular : Bool} (w :
       (λ _. told_if w k _ _ (agree2 w (λ z. is_async_param lm il c l (on [] 0 z)) (λ p q l v. refl) (λ p q l v. refl) (λ n p q l v. refl) (λ n p q l v. refl) (λ n p l v. refl) k (past m s) (past lm s') sj.after) _ _ _ _ (λ y. async_name k c ce l s s' sj.base (past m s) (past lm s') sj.after y)
       (λ _. told_if w k _ _ (agree1 w (λ z. at lm left_paren_kind (on [] 0 z) && not (brk (input lm (on [] 0 z)))) (λ p q l v. refl) (λ p q l v. refl) (λ p l v. refl) k (past m s) (past lm s') sj.after) _ _ _ _
       (λ y. async_group_told k c ce l k s s' sj (past m s) (past lm s') (joined_at w left_paren_kind (refl, refl, refl, refl) k (past m s) (past lm s') sj.after (and_first (at lm left_paren_kind (past lm s')) (not (brk (input lm (past lm s')))) y)))
-      (λ _. subst (λ (z : List ℕ). Told m Live k (ident_end lm il c l s' (text (input lm s')) (past lm s')) (ident_end m im c l s z (past m s))) (text_as w k s s' sj) (ident_end_told k c ce l k s s' sj (text (input lm s')) (past m s) (past lm s') sj.after))))
+      (λ _. subst (λ (z : List ℕ). Told m Live k (ident_end lm il c l (first_span (input lm s')) (text (input lm s')) (past lm s')) (ident_end m im c l (first_span (input m s)) z (past m s))) (text_as w k s s' sj) (ident_end_told k c ce l k s s' sj (text (input lm s')) (past m s) (past lm s') sj.after))))
 
   pub class_expr_by_told : (k : Ceiling) (c : Code) (ce : c.context.module_ ≡ modular) (s : State S) (s' : State Input) (sh : Beside m Live k s s') → Told m Live k (class_expr_by lm il c s') (class_expr_by m im c s)
   unfolding class_expr_by
-  class_expr_by_told k c ce s s' sh = told_word w k c class_kind (refl, refl, refl, refl) s s' sh _ _ (λ j1. told_if w k _ _ (agree1 w (λ z. is_name lm (turned_strict c) (on [] 0 z) && not (at lm left_brace_kind (on [] 0 z))) (λ p q l v. refl) (λ p q l v. refl) (λ p l v. refl) k (past m s) (past lm s') j1.after) _ _ _ _ (λ y2. told_name w k (turned_strict c) (past m s) (past lm s') j1.after _ _ (λ n0 j3. told_then w k _ _ _ _ (subst (λ (z : ℕ). Told m Live k (il.class_tail (turned_strict (with_in c)) (lo (input lm s')) (past lm (past lm s'))) (im.class_tail (turned_strict (with_in c)) z (past m (past m s)))) (ap (λ (z : ℕ). z) (lo_same w k s s' sh)) (told.class_tail k (turned_strict (with_in c)) ce (lo (input lm s')) (past m (past m s)) (past lm (past lm s')) j3.after)) (λ k0 k1 k1' k1h. told_ok w k _ _ k1 k1' k1h (ap (λ (z : Span). class_expr z (ident (first lm il (past lm s')) n0) k0) (span_same w k k s k1 s' k1' sh k1h) ∙ (ap (λ (z : Span). class_expr (spanned m s k1) (ident z n0) k0) (first_same w k (past m s) (past lm s') j3)))))) (λ _. told_then w k _ _ _ _ (subst (λ (z : ℕ). Told m Live k (il.class_tail (turned_strict (with_in c)) (lo (input lm s')) (past lm s')) (im.class_tail (turned_strict (with_in c)) z (past m s))) (ap (λ (z : ℕ). z) (lo_same w k s s' sh)) (told.class_tail k (turned_strict (with_in c)) ce (lo (input lm s')) (past m s) (past lm s') j1.after)) (λ k0 k1 k1' k1h. told_ok w k _ _ k1 k1' k1h (ap (λ (z : Span). class_expr z absent k0) (span_same w k k s k1 s' k1' sh k1h)))))
+  class_expr_by_told k c ce s s' sh = told_word w k c class_kind (refl, refl, refl, refl) s s' sh _ _ (λ j1. told_if w k _ _ (agree1 w (λ z. is_name lm (turned_strict c) (on [] 0 z) && not (at lm left_brace_kind (on [] 0 z))) (λ p q l v. refl) (λ p q l v. refl) (λ p l v. refl) k (past m s) (past lm s') j1.after) _ _ _ _ (λ y2. told_name w k (turned_strict c) (past m s) (past lm s') j1.after _ _ (λ n0 j3. told_then w k _ _ _ _ (subst (λ (z : ℕ). Told m Live k (il.class_tail (turned_strict (with_in c)) (lo (input lm s')) (past lm (past lm s'))) (im.class_tail (turned_strict (with_in c)) z (past m (past m s)))) (ap (λ (z : ℕ). z) (lo_same w k s s' sh)) (told.class_tail k (turned_strict (with_in c)) ce (lo (input lm s')) (past m (past m s)) (past lm (past lm s')) j3.after)) (λ k0 k1 k1' k1h. told_ok w k _ _ k1 k1' k1h (ap (λ (z : Span). class_expr z (ident (first lm il (past lm s')) n0) k0) (span_same w k k s k1 s' k1' sh k1h) ∙ (ap (λ (z : Span). class_expr (spanned m (lo (input m s)) k1) (ident z n0) k0) (first_same w k (past m s) (past lm s') j3)))))) (λ _. told_then w k _ _ _ _ (subst (λ (z : ℕ). Told m Live k (il.class_tail (turned_strict (with_in c)) (lo (input lm s')) (past lm s')) (im.class_tail (turned_strict (with_in c)) z (past m s))) (ap (λ (z : ℕ). z) (lo_same w k s s' sh)) (told.class_tail k (turned_strict (with_in c)) ce (lo (input lm s')) (past m s) (past lm s') j1.after)) (λ k0 k1 k1' k1h. told_ok w k _ _ k1 k1' k1h (ap (λ (z : Span). class_expr z absent k0) (span_same w k k s k1 s' k1' sh k1h)))))
 
-  pub new_end_told : (k : Ceiling) (c : Code) (ce : c.context.module_ ≡ modular) (startc : Ceiling) (start : State S) (start' : State Input) (starth : Beside m Live startc start start') (f : Tree) (s : State S) (s' : State Input) (sh : Beside m Live k s s') → Told m Live k (new_end lm il c start' f s') (new_end m im c start f s)
+  pub new_end_told : (k : Ceiling) (c : Code) (ce : c.context.module_ ≡ modular) (startc : Ceiling) (start : State S) (start' : State Input) (starth : Beside m Live startc start start') (f : Tree) (s : State S) (s' : State Input) (sh : Beside m Live k s s') → Told m Live k (new_end lm il c (lo (input lm start')) f s') (new_end m im c (lo (input m start)) f s)
   unfolding new_end
   new_end_told k c ce startc start start' starth f s s' sh = told_if w k _ _ (agree1 w (λ z. at lm left_paren_kind (on [] 0 z) && nat_le member_level (level f)) (λ p q l v. refl) (λ p q l v. refl) (λ p l v. refl) k s s' sh) _ _ _ _ (λ y1. told_then w k _ _ _ _ (arguments_by_told k c ce (past m s) (past lm s') (joined_at w left_paren_kind (refl, refl, refl, refl) k s s' sh (and_first (at lm left_paren_kind s') (nat_le member_level (level f)) y1)).after) (λ xs0 xs1 xs1' xs1h. told_ok w k _ _ xs1 xs1' xs1h (ap (λ (z : Span). new_expr z f (list (pack xs0))) (span_same w startc k start xs1 start' xs1' starth xs1h)))) (λ _. told_if w k _ _ (agree2 w (λ z. (nat_le member_level (level f) || (level f == new_level)) && nat_lt (goes_expr c other_end (input lm (on [] 0 z))) call_level) (λ p q l v. refl) (λ p q l v. refl) (λ n p q l v. refl) (λ n p q l v. refl) (λ n p l v. refl) k s s' sh) _ _ _ _ (λ y2. told_ok w k _ _ s s' sh (ap (λ (z : Span). new_expr z f absent) (span_same w startc k start s start' s' starth sh))) (λ _. never w k _ _))
 
@@ -261,27 +261,27 @@ module _ {S : Type 0} {m : Stream S} {Live : S → Type 0} {modular : Bool} (w :
   unfolding new_by
   new_by_told k c ce s s' sh = told_word w k c new_kind (refl, refl, refl, refl) s s' sh _ _ (λ j1. told_at w k dot_kind (refl, refl, refl, refl) (past m s) (past lm s') j1.after _ _ _ _ (λ j2. told_word w k c target_kind (refl, refl, refl, refl) (past m (past m s)) (past lm (past lm s')) j2.after _ _ (λ j3. told_ok w k _ _ (past m (past m (past m s))) (past lm (past lm (past lm s'))) j3.after (ap (λ (z : Span). meta_prop_expr z new_kind) (span_same w k k s (past m (past m (past m s))) s' (past lm (past lm (past lm s'))) sh j3.after)))) (told_then w k _ _ _ _ (callee_by_told k c ce (past m s) (past lm s') j1.after) (λ f0 f1 f1' f1h. new_end_told k c ce k s s' sh f0 f1 f1' f1h)))
 
-  pub super_end_told : (k : Ceiling) (c : Code) (ce : c.context.module_ ≡ modular) (startc : Ceiling) (start : State S) (start' : State Input) (startj : Joined m Live startc start start') (s : State S) (s' : State Input) (sh : Beside m Live k s s') → Told m Live k (super_end lm il c start' s') (super_end m im c start s)
+  pub super_end_told : (k : Ceiling) (c : Code) (ce : c.context.module_ ≡ modular) (startc : Ceiling) (start : State S) (start' : State Input) (startj : Joined m Live startc start start') (s : State S) (s' : State Input) (sh : Beside m Live k s s') → Told m Live k (super_end lm il c (first_span (input lm start')) s') (super_end m im c (first_span (input m start)) s)
   unfolding super_end
-  super_end_told k c ce startc start start' startj s s' sh = told_at w k left_paren_kind (refl, refl, refl, refl) s s' sh _ _ _ _ (λ j1. told_then w k _ _ _ _ (arguments_by_told k c ce (past m s) (past lm s') j1.after) (λ xs0 xs1 xs1' xs1h. told_ok w k _ _ xs1 xs1' xs1h (ap (λ (z : Span). call_expr z (super (first lm il start')) (pack xs0)) (span_same w startc k start xs1 start' xs1' startj.base xs1h) ∙ (ap (λ (z : Span). call_expr (spanned m start xs1) (super z) (pack xs0)) (first_same w startc start start' startj))))) (told_at w k left_bracket_kind (refl, refl, refl, refl) s s' sh _ _ _ _ (λ j2. told_then w k _ _ _ _ (computed_by_told k c ce expression_level s s' j2) (λ k0 k1 k1' k1h. told_ok w k _ _ k1 k1' k1h (ap (λ (z : Span). super_prop_expr z (super (first lm il start')) k0) (span_same w startc k start k1 start' k1' startj.base k1h) ∙ (ap (λ (z : Span). super_prop_expr (spanned m start k1) (super z) k0) (first_same w startc start start' startj))))) (told_eat w k dot_kind (refl, refl, refl, refl) s s' sh _ _ (λ j3. told_any w k (past m s) (past lm s') j3.after _ _ (λ n0 j4. told_ok w k _ _ (past m (past m s)) (past lm (past lm s')) j4.after (ap (λ (z : Span). super_prop_expr z (super (first lm il start')) (ident_name (first lm il (past lm s')) n0)) (span_same w startc k start (past m (past m s)) start' (past lm (past lm s')) startj.base j4.after) ∙ (ap (λ (z : Span). super_prop_expr (spanned m start (past m (past m s))) (super z) (ident_name (first lm il (past lm s')) n0)) (first_same w startc start start' startj) ∙ (ap (λ (z : Span). super_prop_expr (spanned m start (past m (past m s))) (super (first m im start)) (ident_name z n0)) (first_same w k (past m s) (past lm s') j4))))))))
+  super_end_told k c ce startc start start' startj s s' sh = told_at w k left_paren_kind (refl, refl, refl, refl) s s' sh _ _ _ _ (λ j1. told_then w k _ _ _ _ (arguments_by_told k c ce (past m s) (past lm s') j1.after) (λ xs0 xs1 xs1' xs1h. told_ok w k _ _ xs1 xs1' xs1h (ap (λ (z : Span). call_expr z (super (first lm il start')) (pack xs0)) (span_same w startc k start xs1 start' xs1' startj.base xs1h) ∙ (ap (λ (z : Span). call_expr (spanned m (lo (input m start)) xs1) (super z) (pack xs0)) (first_same w startc start start' startj))))) (told_at w k left_bracket_kind (refl, refl, refl, refl) s s' sh _ _ _ _ (λ j2. told_then w k _ _ _ _ (computed_by_told k c ce expression_level s s' j2) (λ k0 k1 k1' k1h. told_ok w k _ _ k1 k1' k1h (ap (λ (z : Span). super_prop_expr z (super (first lm il start')) k0) (span_same w startc k start k1 start' k1' startj.base k1h) ∙ (ap (λ (z : Span). super_prop_expr (spanned m (lo (input m start)) k1) (super z) k0) (first_same w startc start start' startj))))) (told_eat w k dot_kind (refl, refl, refl, refl) s s' sh _ _ (λ j3. told_any w k (past m s) (past lm s') j3.after _ _ (λ n0 j4. told_ok w k _ _ (past m (past m s)) (past lm (past lm s')) j4.after (ap (λ (z : Span). super_prop_expr z (super (first lm il start')) (ident_name (first lm il (past lm s')) n0)) (span_same w startc k start (past m (past m s)) start' (past lm (past lm s')) startj.base j4.after) ∙ (ap (λ (z : Span). super_prop_expr (spanned m (lo (input m start)) (past m (past m s))) (super z) (ident_name (first lm il (past lm s')) n0)) (first_same w startc start start' startj) ∙ (ap (λ (z : Span). super_prop_expr (spanned m (lo (input m start)) (past m (past m s))) (super (first m im start)) (ident_name z n0)) (first_same w k (past m s) (past lm s') j4))))))))
 
   pub import_by_told : (k : Ceiling) (c : Code) (ce : c.context.module_ ≡ modular) (s : State S) (s' : State Input) (sh : Beside m Live k s s') → Told m Live k (import_by lm il c s') (import_by m im c s)
   unfolding import_by
-  import_by_told k c ce s s' sh = told_word w k c import_kind (refl, refl, refl, refl) s s' sh _ _ (λ j1. told_at w k dot_kind (refl, refl, refl, refl) (past m s) (past lm s') j1.after _ _ _ _ (λ j2. told_word w k c meta_kind (refl, refl, refl, refl) (past m (past m s)) (past lm (past lm s')) j2.after _ _ (λ j3. told_ok w k _ _ (past m (past m (past m s))) (past lm (past lm (past lm s'))) j3.after (ap (λ (z : Span). meta_prop_expr z import_kind) (span_same w k k s (past m (past m (past m s))) s' (past lm (past lm (past lm s'))) sh j3.after)))) (told_eat w k left_paren_kind (refl, refl, refl, refl) (past m s) (past lm s') j1.after _ _ (λ j4. told_then w k _ _ _ _ (elements_by_told k c ce false right_paren_kind (refl, refl, refl, refl) (past m (past m s)) (past lm (past lm s')) j4.after) (λ xs0 xs1 xs1' xs1h. told_if w k (fits_import lm il c xs0) (fits_import m im c xs0) refl _ _ _ _ (λ _. told_ok w k _ _ xs1 xs1' xs1h (ap (λ (z : Span). call_expr z (import (first lm il s')) (pack xs0.items)) (span_same w k k s xs1 s' xs1' sh xs1h) ∙ (ap (λ (z : Span). call_expr (spanned m s xs1) (import z) (pack xs0.items)) (first_same w k s s' j1)))) (λ _. never w k _ _)))))
+  import_by_told k c ce s s' sh = told_word w k c import_kind (refl, refl, refl, refl) s s' sh _ _ (λ j1. told_at w k dot_kind (refl, refl, refl, refl) (past m s) (past lm s') j1.after _ _ _ _ (λ j2. told_word w k c meta_kind (refl, refl, refl, refl) (past m (past m s)) (past lm (past lm s')) j2.after _ _ (λ j3. told_ok w k _ _ (past m (past m (past m s))) (past lm (past lm (past lm s'))) j3.after (ap (λ (z : Span). meta_prop_expr z import_kind) (span_same w k k s (past m (past m (past m s))) s' (past lm (past lm (past lm s'))) sh j3.after)))) (told_eat w k left_paren_kind (refl, refl, refl, refl) (past m s) (past lm s') j1.after _ _ (λ j4. told_then w k _ _ _ _ (elements_by_told k c ce false right_paren_kind (refl, refl, refl, refl) (past m (past m s)) (past lm (past lm s')) j4.after) (λ xs0 xs1 xs1' xs1h. told_if w k (fits_import lm il c xs0) (fits_import m im c xs0) refl _ _ _ _ (λ _. told_ok w k _ _ xs1 xs1' xs1h (ap (λ (z : Span). call_expr z (import (first lm il s')) (pack xs0.items)) (span_same w k k s xs1 s' xs1' sh xs1h) ∙ (ap (λ (z : Span). call_expr (spanned m (lo (input m s)) xs1) (import z) (pack xs0.items)) (first_same w k s s' j1)))) (λ _. never w k _ _)))))
 
   pub unary_by_told : (k : Ceiling) (c : Code) (ce : c.context.module_ ≡ modular) (s : State S) (s' : State Input) (sj : Joined m Live k s s') → Told m Live k (unary_by lm il c s') (unary_by m im c s)
   unfolding unary_by
-  unary_by_told k c ce s s' sj = told_own w k c s s' sj _ _ (told_then w k _ _ _ _ (told.expr k c ce unary_level (past m s) (past lm s') sj.after) (λ e0 e1 e1' e1h. told_ok w k _ _ e1 e1' e1h (ap (λ (z : Span). unary_expr z (kind (input lm s')) e0) (span_same w k k s e1 s' e1' sj.base e1h) ∙ (ap (λ (z : ℕ). unary_expr (spanned m s e1) z e0) (kind_as w k s s' sj)))))
+  unary_by_told k c ce s s' sj = told_own w k c s s' sj _ _ (told_then w k _ _ _ _ (told.expr k c ce unary_level (past m s) (past lm s') sj.after) (λ e0 e1 e1' e1h. told_ok w k _ _ e1 e1' e1h (ap (λ (z : Span). unary_expr z (kind (input lm s')) e0) (span_same w k k s e1 s' e1' sj.base e1h) ∙ (ap (λ (z : ℕ). unary_expr (spanned m (lo (input m s)) e1) z e0) (kind_as w k s s' sj)))))
 
   pub update_by_told : (k : Ceiling) (c : Code) (ce : c.context.module_ ≡ modular) (s : State S) (s' : State Input) (sj : Joined m Live k s s') → Told m Live k (update_by lm il c s') (update_by m im c s)
   unfolding update_by
-  update_by_told k c ce s s' sj = told_then w k _ _ _ _ (told.expr k c ce unary_level (past m s) (past lm s') sj.after) (λ e0 e1 e1' e1h. told_ok w k _ _ e1 e1' e1h (ap (λ (z : Span). update_expr z (kind (input lm s')) true e0) (span_same w k k s e1 s' e1' sj.base e1h) ∙ (ap (λ (z : ℕ). update_expr (spanned m s e1) z true e0) (kind_as w k s s' sj))))
+  update_by_told k c ce s s' sj = told_then w k _ _ _ _ (told.expr k c ce unary_level (past m s) (past lm s') sj.after) (λ e0 e1 e1' e1h. told_ok w k _ _ e1 e1' e1h (ap (λ (z : Span). update_expr z (kind (input lm s')) true e0) (span_same w k k s e1 s' e1' sj.base e1h) ∙ (ap (λ (z : ℕ). update_expr (spanned m (lo (input m s)) e1) z true e0) (kind_as w k s s' sj))))
 
   pub await_by_told : (k : Ceiling) (c : Code) (ce : c.context.module_ ≡ modular) (s : State S) (s' : State Input) (sh : Beside m Live k s s') → Told m Live k (await_by lm il c s') (await_by m im c s)
   unfolding await_by
   await_by_told k c ce s s' sh = told_word w k c await_kind (refl, refl, refl, refl) s s' sh _ _ (λ j1. told_then w k _ _ _ _ (told.expr k c ce unary_level (past m s) (past lm s') j1.after) (λ e0 e1 e1' e1h. told_ok w k _ _ e1 e1' e1h (ap (λ (z : Span). await_expr z e0) (span_same w k k s e1 s' e1' sh e1h))))
 
-  pub yield_end_told : (k : Ceiling) (c : Code) (ce : c.context.module_ ≡ modular) (s : State S) (s' : State Input) (sh : Beside m Live k s s') (r : State S) (r' : State Input) (rh : Beside m Live k r r') → Told m Live k (yield_end lm il c s' r') (yield_end m im c s r)
+  pub yield_end_told : (k : Ceiling) (c : Code) (ce : c.context.module_ ≡ modular) (s : State S) (s' : State Input) (sh : Beside m Live k s s') (r : State S) (r' : State Input) (rh : Beside m Live k r r') → Told m Live k (yield_end lm il c (lo (input lm s')) r') (yield_end m im c (lo (input m s)) r)
   unfolding yield_end
   yield_end_told k c ce s s' sh r r' rh = told_if w k _ _ (agree1 w (λ z. brk (input lm (on [] 0 z)) || ends_yield lm il (kind (input lm (on [] 0 z)))) (λ p q l v. refl) (λ p q l v. refl) (λ p l v. refl) k r r' rh) _ _ _ _ (λ y1. told_ok w k _ _ r r' rh (ap (λ (z : Span). yield_expr z absent false) (span_same w k k s r s' r' sh rh))) (λ _. told_at w k mul_kind (refl, refl, refl, refl) r r' rh _ _ _ _ (λ j2. told_then w k _ _ _ _ (told.expr k c ce assignment_level (past m r) (past lm r') j2.after) (λ e0 e1 e1' e1h. told_ok w k _ _ e1 e1' e1h (ap (λ (z : Span). yield_expr z e0 true) (span_same w k k s e1 s' e1' sh e1h)))) (told_then w k _ _ _ _ (told.expr k c ce assignment_level r r' rh) (λ e0 e1 e1' e1h. told_ok w k _ _ e1 e1' e1h (ap (λ (z : Span). yield_expr z e0 false) (span_same w k k s e1 s' e1' sh e1h)))))
 
@@ -308,41 +308,41 @@ module _ {S : Type 0} {m : Stream S} {Live : S → Type 0} {modular : Bool} (w :
   unfolding member_name
   member_name_told k may_private s s' sh = told_at w k hash_kind (refl, refl, refl, refl) s s' sh _ _ _ _ (λ j1. told_if w k (may_private) (may_private) refl _ _ _ _ (λ _. private_by_told k s s' sh) (λ _. never w k _ _)) (told_any w k s s' sh _ _ (λ n0 j2. told_ok w k _ _ (past m s) (past lm s') j2.after (ap (λ (z : Span). ident_name z n0) (first_same w k s s' j2))))
 
-  pub member_by_told : (k : Ceiling) (c : Code) (ce : c.context.module_ ≡ modular) (startc : Ceiling) (start : State S) (start' : State Input) (starth : Beside m Live startc start start') (t : Tree) (s : State S) (s' : State Input) (sj : Joined m Live k s s') → Told m Live k (member_by lm il c start' t s') (member_by m im c start t s)
+  pub member_by_told : (k : Ceiling) (c : Code) (ce : c.context.module_ ≡ modular) (startc : Ceiling) (start : State S) (start' : State Input) (starth : Beside m Live startc start start') (t : Tree) (s : State S) (s' : State Input) (sj : Joined m Live k s s') → Told m Live k (member_by lm il c (lo (input lm start')) t s') (member_by m im c (lo (input m start)) t s)
   unfolding member_by
   member_by_told k c ce startc start start' starth t s s' sj = told_then w k _ _ _ _ (member_name_told k true (past m s) (past lm s') sj.after) (λ k0 k1 k1' k1h. told_ok w k _ _ k1 k1' k1h (ap (λ (z : Span). on_chain m im (is_chain t) z (member_expr z t k0)) (span_same w startc k start k1 start' k1' starth k1h)))
 
-  pub index_by_told : (k : Ceiling) (c : Code) (ce : c.context.module_ ≡ modular) (startc : Ceiling) (start : State S) (start' : State Input) (starth : Beside m Live startc start start') (t : Tree) (s : State S) (s' : State Input) (sj : Joined m Live k s s') → Told m Live k (index_by lm il c start' t s') (index_by m im c start t s)
+  pub index_by_told : (k : Ceiling) (c : Code) (ce : c.context.module_ ≡ modular) (startc : Ceiling) (start : State S) (start' : State Input) (starth : Beside m Live startc start start') (t : Tree) (s : State S) (s' : State Input) (sj : Joined m Live k s s') → Told m Live k (index_by lm il c (lo (input lm start')) t s') (index_by m im c (lo (input m start)) t s)
   unfolding index_by
   index_by_told k c ce startc start start' starth t s s' sj = told_then w k _ _ _ _ (computed_by_told k c ce expression_level s s' sj) (λ k0 k1 k1' k1h. told_ok w k _ _ k1 k1' k1h (ap (λ (z : Span). on_chain m im (is_chain t) z (member_expr z t k0)) (span_same w startc k start k1 start' k1' starth k1h)))
 
-  pub call_by_told : (k : Ceiling) (c : Code) (ce : c.context.module_ ≡ modular) (startc : Ceiling) (start : State S) (start' : State Input) (starth : Beside m Live startc start start') (t : Tree) (s : State S) (s' : State Input) (sj : Joined m Live k s s') → Told m Live k (call_by lm il c start' t s') (call_by m im c start t s)
+  pub call_by_told : (k : Ceiling) (c : Code) (ce : c.context.module_ ≡ modular) (startc : Ceiling) (start : State S) (start' : State Input) (starth : Beside m Live startc start start') (t : Tree) (s : State S) (s' : State Input) (sj : Joined m Live k s s') → Told m Live k (call_by lm il c (lo (input lm start')) t s') (call_by m im c (lo (input m start)) t s)
   unfolding call_by
   call_by_told k c ce startc start start' starth t s s' sj = told_then w k _ _ _ _ (arguments_by_told k c ce (past m s) (past lm s') sj.after) (λ xs0 xs1 xs1' xs1h. told_ok w k _ _ xs1 xs1' xs1h (ap (λ (z : Span). call_tree m im z t xs0) (span_same w startc k start xs1 start' xs1' starth xs1h)))
 
-  pub chain_by_told : (k : Ceiling) (c : Code) (ce : c.context.module_ ≡ modular) (startc : Ceiling) (start : State S) (start' : State Input) (starth : Beside m Live startc start start') (t : Tree) (s : State S) (s' : State Input) (sh : Beside m Live k s s') → Told m Live k (chain_by lm il c start' t s') (chain_by m im c start t s)
+  pub chain_by_told : (k : Ceiling) (c : Code) (ce : c.context.module_ ≡ modular) (startc : Ceiling) (start : State S) (start' : State Input) (starth : Beside m Live startc start start') (t : Tree) (s : State S) (s' : State Input) (sh : Beside m Live k s s') → Told m Live k (chain_by lm il c (lo (input lm start')) t s') (chain_by m im c (lo (input m start)) t s)
   unfolding chain_by
   chain_by_told k c ce startc start start' starth t s s' sh = told_at w k left_paren_kind (refl, refl, refl, refl) s s' sh _ _ _ _ (λ j1. told_then w k _ _ _ _ (arguments_by_told k c ce (past m s) (past lm s') j1.after) (λ xs0 xs1 xs1' xs1h. told_ok w k _ _ xs1 xs1' xs1h (ap (λ (z : Span). opt_chain_expr z true (opt_call z t (pack xs0))) (span_same w startc k start xs1 start' xs1' starth xs1h)))) (told_at w k left_bracket_kind (refl, refl, refl, refl) s s' sh _ _ _ _ (λ j2. told_then w k _ _ _ _ (computed_by_told k c ce expression_level s s' j2) (λ k0 k1 k1' k1h. told_ok w k _ _ k1 k1' k1h (ap (λ (z : Span). opt_chain_expr z true (member_expr z t k0)) (span_same w startc k start k1 start' k1' starth k1h)))) (told_then w k _ _ _ _ (member_name_told k true s s' sh) (λ k0 k1 k1' k1h. told_ok w k _ _ k1 k1' k1h (ap (λ (z : Span). opt_chain_expr z true (member_expr z t k0)) (span_same w startc k start k1 start' k1' starth k1h)))))
 
-  pub cond_by_told : (k : Ceiling) (c : Code) (ce : c.context.module_ ≡ modular) (startc : Ceiling) (start : State S) (start' : State Input) (starth : Beside m Live startc start start') (t : Tree) (s : State S) (s' : State Input) (sj : Joined m Live k s s') → Told m Live k (cond_by lm il c start' t s') (cond_by m im c start t s)
+  pub cond_by_told : (k : Ceiling) (c : Code) (ce : c.context.module_ ≡ modular) (startc : Ceiling) (start : State S) (start' : State Input) (starth : Beside m Live startc start start') (t : Tree) (s : State S) (s' : State Input) (sj : Joined m Live k s s') → Told m Live k (cond_by lm il c (lo (input lm start')) t s') (cond_by m im c (lo (input m start)) t s)
   unfolding cond_by
   cond_by_told k c ce startc start start' starth t s s' sj = told_then w k _ _ _ _ (told.expr k (with_in c) ce assignment_level (past m s) (past lm s') sj.after) (λ a0 a1 a1' a1h. told_eat w k colon_kind (refl, refl, refl, refl) a1 a1' a1h _ _ (λ j1. told_then w k _ _ _ _ (told.expr k c ce assignment_level (past m a1) (past lm a1') j1.after) (λ b0 b1 b1' b1h. told_ok w k _ _ b1 b1' b1h (ap (λ (z : Span). cond_expr z t a0 b0) (span_same w startc k start b1 start' b1' starth b1h)))))
 
-  pub assign_by_told : (k : Ceiling) (c : Code) (ce : c.context.module_ ≡ modular) (startc : Ceiling) (start : State S) (start' : State Input) (starth : Beside m Live startc start start') (t : Tree) (s : State S) (s' : State Input) (sj : Joined m Live k s s') → Told m Live k (assign_by lm il c start' t s') (assign_by m im c start t s)
+  pub assign_by_told : (k : Ceiling) (c : Code) (ce : c.context.module_ ≡ modular) (startc : Ceiling) (start : State S) (start' : State Input) (starth : Beside m Live startc start start') (t : Tree) (s : State S) (s' : State Input) (sj : Joined m Live k s s') → Told m Live k (assign_by lm il c (lo (input lm start')) t s') (assign_by m im c (lo (input m start)) t s)
   unfolding assign_by
   assign_by_told k c ce startc start start' starth t s s' sj = told_pure w _ _ k _ _ (ap₂ (λ (a : ℕ) (o : List ℕ). to_target a o t) (kind_as w k s s' sj) (sym sj.base.commas)) _ _ (λ p. told_then w k _ _ _ _ (told.expr k c ce assignment_level (past m s) (past lm s') sj.after) (λ e0 e1 e1' e1h.
-      told_ok w k _ _ e1 e1' e1h (ap (λ (z : Span). assign_expr z (kind (input lm s')) p e0) (span_same w startc k start e1 start' e1' starth e1h) ∙ ap (λ (z : ℕ). assign_expr (spanned m start e1) z p e0) (kind_as w k s s' sj))))
+      told_ok w k _ _ e1 e1' e1h (ap (λ (z : Span). assign_expr z (kind (input lm s')) p e0) (span_same w startc k start e1 start' e1' starth e1h) ∙ ap (λ (z : ℕ). assign_expr (spanned m (lo (input m start)) e1) z p e0) (kind_as w k s s' sj))))
 
-  pub binary_by_told : (k : Ceiling) (c : Code) (ce : c.context.module_ ≡ modular) (startc : Ceiling) (start : State S) (start' : State Input) (starth : Beside m Live startc start start') (t : Tree) (s : State S) (s' : State Input) (sj : Joined m Live k s s') → Told m Live k (binary_by lm il c start' t s') (binary_by m im c start t s)
+  pub binary_by_told : (k : Ceiling) (c : Code) (ce : c.context.module_ ≡ modular) (startc : Ceiling) (start : State S) (start' : State Input) (starth : Beside m Live startc start start') (t : Tree) (s : State S) (s' : State Input) (sj : Joined m Live k s s') → Told m Live k (binary_by lm il c (lo (input lm start')) t s') (binary_by m im c (lo (input m start)) t s)
   unfolding binary_by
-  binary_by_told k c ce startc start start' starth t s s' sj = told_own w k c s s' sj _ _ (told_then w k _ _ _ _ (subst (λ (z : ℕ). Told m Live k (il.expr c (right_level (kind (input lm s'))) (past lm s')) (im.expr c z (past m s))) (ap (λ (z : ℕ). (right_level z)) (kind_as w k s s' sj)) (told.expr k c ce (right_level (kind (input lm s'))) (past m s) (past lm s') sj.after)) (λ e0 e1 e1' e1h. told_ok w k _ _ e1 e1' e1h (ap (λ (z : Span). bin_expr z (kind (input lm s')) t e0) (span_same w startc k start e1 start' e1' starth e1h) ∙ (ap (λ (z : ℕ). bin_expr (spanned m start e1) z t e0) (kind_as w k s s' sj)))))
+  binary_by_told k c ce startc start start' starth t s s' sj = told_own w k c s s' sj _ _ (told_then w k _ _ _ _ (subst (λ (z : ℕ). Told m Live k (il.expr c (right_level (kind (input lm s'))) (past lm s')) (im.expr c z (past m s))) (ap (λ (z : ℕ). (right_level z)) (kind_as w k s s' sj)) (told.expr k c ce (right_level (kind (input lm s'))) (past m s) (past lm s') sj.after)) (λ e0 e1 e1' e1h. told_ok w k _ _ e1 e1' e1h (ap (λ (z : Span). bin_expr z (kind (input lm s')) t e0) (span_same w startc k start e1 start' e1' starth e1h) ∙ (ap (λ (z : ℕ). bin_expr (spanned m (lo (input m start)) e1) z t e0) (kind_as w k s s' sj)))))
 
-  pub step_by_told : (k : Ceiling) (c : Code) (ce : c.context.module_ ≡ modular) (startc : Ceiling) (start : State S) (start' : State Input) (starth : Beside m Live startc start start') (t : Tree) (s : State S) (s' : State Input) (sj : Joined m Live k s s') → Told m Live k (step_by lm il c start' t s') (step_by m im c start t s)
+  pub step_by_told : (k : Ceiling) (c : Code) (ce : c.context.module_ ≡ modular) (startc : Ceiling) (start : State S) (start' : State Input) (starth : Beside m Live startc start start') (t : Tree) (s : State S) (s' : State Input) (sj : Joined m Live k s s') → Told m Live k (step_by lm il c (lo (input lm start')) t s') (step_by m im c (lo (input m start)) t s)
   unfolding step_by
-  step_by_told k c ce startc start start' starth t s s' sj = told_at w k comma_kind (refl, refl, refl, refl) s s' sj.base _ _ _ _ (λ j1. told_then w k _ _ _ _ (told.expr k c ce assignment_level (past m s) (past lm s') j1.after) (λ e0 e1 e1' e1h. told_ok w k _ _ e1 e1' e1h (ap (λ (z : Span). extended t e0 z) (span_same w startc k start e1 start' e1' starth e1h)))) (told_if w k _ _ (has_same w (λ z. is_assign_op (kind (input lm (on [] 0 z)))) (λ p l v. refl) k s s' sj) _ _ _ _ (λ y2. assign_by_told k c ce startc start start' starth t s s' (joined_by w (is_assign_op) refl refl k s s' sj.base y2)) (λ _. told_if w k _ _ (agree2 w (λ z. at lm question_mark_kind (on [] 0 z) && (kind2 (input lm (on [] 0 z)) == dot_kind)) (λ p q l v. refl) (λ p q l v. refl) (λ n p q l v. refl) (λ n p q l v. refl) (λ n p l v. refl) k s s' sj.base) _ _ _ _ (λ y3. told_if w k (nat_le call_level (level t)) (nat_le call_level (level t)) refl _ _ _ _ (λ _. chain_by_told k c ce startc start start' starth t (past m (past m s)) (past lm (past lm s')) (joined_at w dot_kind (refl, refl, refl, refl) k (past m s) (past lm s') sj.after (and_second (at lm question_mark_kind s') (kind2 (input lm s') == dot_kind) y3)).after) (λ _. never w k _ _)) (λ _. told_at w k question_mark_kind (refl, refl, refl, refl) s s' sj.base _ _ _ _ (λ j4. told_if w k (nat_le coalesce_level (level t)) (nat_le coalesce_level (level t)) refl _ _ _ _ (λ _. cond_by_told k c ce startc start start' starth t s s' j4) (λ _. never w k _ _)) (told_if w k _ _ (has_same w (λ z. operates c (kind (input lm (on [] 0 z)))) (λ p l v. refl) k s s' sj) _ _ _ _ (λ y5. told_if w k _ _ (has_same w (λ z. fits_left (kind (input lm (on [] 0 z))) t) (λ p l v. refl) k s s' (joined_by w (operates c) refl refl k s s' sj.base y5)) _ _ _ _ (λ y6. binary_by_told k c ce startc start start' starth t s s' (joined_by w (operates c) refl refl k s s' sj.base y5)) (λ _. never w k _ _)) (λ _. told_if w k _ _ (has_same w (λ z. between plus_plus_kind minus_minus_kind (kind (input lm (on [] 0 z)))) (λ p l v. refl) k s s' sj) _ _ _ _ (λ y7. told_if w k _ _ (has_same w (λ z. nat_le new_level (level t) && not (brk (input lm (on [] 0 z)))) (λ p l v. refl) k s s' (joined_by w (between plus_plus_kind minus_minus_kind) refl refl k s s' sj.base y7)) _ _ _ _ (λ y8. told_ok w k _ _ (past m s) (past lm s') (joined_by w (between plus_plus_kind minus_minus_kind) refl refl k s s' sj.base y7).after (ap (λ (z : Span). update_expr z (kind (input lm s')) false t) (span_same w startc k start (past m s) start' (past lm s') starth (joined_by w (between plus_plus_kind minus_minus_kind) refl refl k s s' sj.base y7).after) ∙ (ap (λ (z : ℕ). update_expr (spanned m start (past m s)) z false t) (kind_as w k s s' (joined_by w (between plus_plus_kind minus_minus_kind) refl refl k s s' sj.base y7))))) (λ _. never w k _ _)) (λ _. told_if w k (not (nat_le call_level (level t))) (not (nat_le call_level (level t))) refl _ _ _ _ (λ _. never w k _ _) (λ _. told_at w k left_paren_kind (refl, refl, refl, refl) s s' sj.base _ _ _ _ (λ j9. call_by_told k c ce startc start start' starth t s s' j9) (told_at w k left_bracket_kind (refl, refl, refl, refl) s s' sj.base _ _ _ _ (λ j10. index_by_told k c ce startc start start' starth t s s' j10) (told_at w k dot_kind (refl, refl, refl, refl) s s' sj.base _ _ _ _ (λ j11. member_by_told k c ce startc start start' starth t s s' j11) (told_if w k _ _ (has_same w (λ z. at lm back_quote_kind (on [] 0 z) && not (is_chain t)) (λ p l v. refl) k s s' sj) _ _ _ _ (λ y12. told_then w k _ _ _ _ (template_by_told k c ce true s s' (joined_at w back_quote_kind (refl, refl, refl, refl) k s s' sj.base (and_first (at lm back_quote_kind s') (not (is_chain t)) y12))) (λ q0 q1 q1' q1h. told_ok w k _ _ q1 q1' q1h (ap (λ (z : Span). tagged_tpl z t q0) (span_same w startc k start q1 start' q1' starth q1h)))) (λ _. never w k _ _)))))))))))
+  step_by_told k c ce startc start start' starth t s s' sj = told_at w k comma_kind (refl, refl, refl, refl) s s' sj.base _ _ _ _ (λ j1. told_then w k _ _ _ _ (told.expr k c ce assignment_level (past m s) (past lm s') j1.after) (λ e0 e1 e1' e1h. told_ok w k _ _ e1 e1' e1h (ap (λ (z : Span). extended t e0 z) (span_same w startc k start e1 start' e1' starth e1h)))) (told_if w k _ _ (has_same w (λ z. is_assign_op (kind (input lm (on [] 0 z)))) (λ p l v. refl) k s s' sj) _ _ _ _ (λ y2. assign_by_told k c ce startc start start' starth t s s' (joined_by w (is_assign_op) refl refl k s s' sj.base y2)) (λ _. told_if w k _ _ (agree2 w (λ z. at lm question_mark_kind (on [] 0 z) && (kind2 (input lm (on [] 0 z)) == dot_kind)) (λ p q l v. refl) (λ p q l v. refl) (λ n p q l v. refl) (λ n p q l v. refl) (λ n p l v. refl) k s s' sj.base) _ _ _ _ (λ y3. told_if w k (nat_le call_level (level t)) (nat_le call_level (level t)) refl _ _ _ _ (λ _. chain_by_told k c ce startc start start' starth t (past m (past m s)) (past lm (past lm s')) (joined_at w dot_kind (refl, refl, refl, refl) k (past m s) (past lm s') sj.after (and_second (at lm question_mark_kind s') (kind2 (input lm s') == dot_kind) y3)).after) (λ _. never w k _ _)) (λ _. told_at w k question_mark_kind (refl, refl, refl, refl) s s' sj.base _ _ _ _ (λ j4. told_if w k (nat_le coalesce_level (level t)) (nat_le coalesce_level (level t)) refl _ _ _ _ (λ _. cond_by_told k c ce startc start start' starth t s s' j4) (λ _. never w k _ _)) (told_if w k _ _ (has_same w (λ z. operates c (kind (input lm (on [] 0 z)))) (λ p l v. refl) k s s' sj) _ _ _ _ (λ y5. told_if w k _ _ (has_same w (λ z. fits_left (kind (input lm (on [] 0 z))) t) (λ p l v. refl) k s s' (joined_by w (operates c) refl refl k s s' sj.base y5)) _ _ _ _ (λ y6. binary_by_told k c ce startc start start' starth t s s' (joined_by w (operates c) refl refl k s s' sj.base y5)) (λ _. never w k _ _)) (λ _. told_if w k _ _ (has_same w (λ z. between plus_plus_kind minus_minus_kind (kind (input lm (on [] 0 z)))) (λ p l v. refl) k s s' sj) _ _ _ _ (λ y7. told_if w k _ _ (has_same w (λ z. nat_le new_level (level t) && not (brk (input lm (on [] 0 z)))) (λ p l v. refl) k s s' (joined_by w (between plus_plus_kind minus_minus_kind) refl refl k s s' sj.base y7)) _ _ _ _ (λ y8. told_ok w k _ _ (past m s) (past lm s') (joined_by w (between plus_plus_kind minus_minus_kind) refl refl k s s' sj.base y7).after (ap (λ (z : Span). update_expr z (kind (input lm s')) false t) (span_same w startc k start (past m s) start' (past lm s') starth (joined_by w (between plus_plus_kind minus_minus_kind) refl refl k s s' sj.base y7).after) ∙ (ap (λ (z : ℕ). update_expr (spanned m (lo (input m start)) (past m s)) z false t) (kind_as w k s s' (joined_by w (between plus_plus_kind minus_minus_kind) refl refl k s s' sj.base y7))))) (λ _. never w k _ _)) (λ _. told_if w k (not (nat_le call_level (level t))) (not (nat_le call_level (level t))) refl _ _ _ _ (λ _. never w k _ _) (λ _. told_at w k left_paren_kind (refl, refl, refl, refl) s s' sj.base _ _ _ _ (λ j9. call_by_told k c ce startc start start' starth t s s' j9) (told_at w k left_bracket_kind (refl, refl, refl, refl) s s' sj.base _ _ _ _ (λ j10. index_by_told k c ce startc start start' starth t s s' j10) (told_at w k dot_kind (refl, refl, refl, refl) s s' sj.base _ _ _ _ (λ j11. member_by_told k c ce startc start start' starth t s s' j11) (told_if w k _ _ (has_same w (λ z. at lm back_quote_kind (on [] 0 z) && not (is_chain t)) (λ p l v. refl) k s s' sj) _ _ _ _ (λ y12. told_then w k _ _ _ _ (template_by_told k c ce true s s' (joined_at w back_quote_kind (refl, refl, refl, refl) k s s' sj.base (and_first (at lm back_quote_kind s') (not (is_chain t)) y12))) (λ q0 q1 q1' q1h. told_ok w k _ _ q1 q1' q1h (ap (λ (z : Span). tagged_tpl z t q0) (span_same w startc k start q1 start' q1' starth q1h)))) (λ _. never w k _ _)))))))))))
 
   -- Nothing goes on with a regular expression, or at the end.
-  step_none : (c : Code) (start : State Input) (t : Tree) (o : List ℕ) (n : ℕ) (p : PlacedToken) (l : List PlacedToken) → Refused (step_by lm il c start t (on o n (regexp p ∷ l)))
+  step_none : (c : Code) (start : State Input) (t : Tree) (o : List ℕ) (n : ℕ) (p : PlacedToken) (l : List PlacedToken) → Refused (step_by lm il c (lo (input lm start)) t (on o n (regexp p ∷ l)))
   unfolding step_by
   step_none c start t o n p l = by_level (nat_le call_level (level t))
     where
@@ -350,7 +350,7 @@ module _ {S : Type 0} {m : Stream S} {Live : S → Type 0} {modular : Bool} (w :
       by_level true = (Unexpected _, refl)
       by_level false = (Unexpected _, refl)
 
-  step_end : (c : Code) (start : State Input) (t : Tree) (o : List ℕ) (n : ℕ) → Refused (step_by lm il c start t (on o n []))
+  step_end : (c : Code) (start : State Input) (t : Tree) (o : List ℕ) (n : ℕ) → Refused (step_by lm il c (lo (input lm start)) t (on o n []))
   unfolding step_by
   step_end c start t o n = by_level (nat_le call_level (level t))
     where
@@ -384,32 +384,32 @@ module _ {S : Type 0} {m : Stream S} {Live : S → Type 0} {modular : Bool} (w :
       by_test true false g = absurd (true≢false (sym (g refl)))
 
   loop_on : (k : Ceiling) (c : Code) (ce : c.context.module_ ≡ modular) (l : ℕ) (startc : Ceiling) (start : State S) (start' : State Input) → Beside m Live startc start start' → (t : Tree) (s : State S) (o : List ℕ) (n : ℕ) (ps : List PlacedToken) → Beside m Live k s (on o n ps)
-      → Told m Live k (loop_step lm il c l start' t (on o n ps)) (loop_step m im c l start t s)
+      → Told m Live k (loop_step lm il c l (lo (input lm start')) t (on o n ps)) (loop_step m im c l (lo (input m start)) t s)
   unfolding loop_step
   loop_on k c ce l startc start start' sth t s o n [] h = stops k t (goes_expr c (ends t) (input lm (on o n []))) (goes_expr c (ends t) (input m s)) l
       (subst (λ (z : List PlacedToken). goes_expr c (ends t) (record { last = m.last s.source; places = z }) ≤ goes_expr c (ends t) (input lm (on o n []))) (sym h.hands) (le_refl _)) s (on o n []) h _ _ (refused_then _ _ (step_end c start' t o n))
   loop_on k c ce l startc start start' sth t s o n (p ∷ ps) h = by_hands h.hands
     where
-      reread_told : (q : PlacedToken) (v : List PlacedToken) → m.seen s.source ≡ q ∷ v → Rereads q p → Told m Live k (cond (nat_lt (goes_expr c (ends t) (input lm (on o n (p ∷ ps)))) l) (Ok (finished t, on o n (p ∷ ps))) (step_by lm il c start' t (on o n (p ∷ ps)) >>= λ x. Ok (go_on x.0, x.1)))
-          (cond (nat_lt (goes_expr c (ends t) (input m s)) l) (Ok (finished t, s)) (step_by m im c start t s >>= λ x. Ok (go_on x.0, x.1)))
+      reread_told : (q : PlacedToken) (v : List PlacedToken) → m.seen s.source ≡ q ∷ v → Rereads q p → Told m Live k (cond (nat_lt (goes_expr c (ends t) (input lm (on o n (p ∷ ps)))) l) (Ok (finished t, on o n (p ∷ ps))) (step_by lm il c (lo (input lm start')) t (on o n (p ∷ ps)) >>= λ x. Ok (go_on x.0, x.1)))
+          (cond (nat_lt (goes_expr c (ends t) (input m s)) l) (Ok (finished t, s)) (step_by m im c (lo (input m start)) t s >>= λ x. Ok (go_on x.0, x.1)))
       reread_told q v e g = stops k t (goes_expr c (ends t) (input lm (on o n (p ∷ ps)))) (goes_expr c (ends t) (input m s)) l
           (subst (λ (z : List PlacedToken). goes_expr c (ends t) (record { last = m.last s.source; places = z }) ≤ goes_expr c (ends t) (input lm (on o n (p ∷ ps)))) (sym e) (goes_lower c (ends t) n (m.last s.source) ps v q p g)) s (on o n (p ∷ ps)) h _ _
-          (refused_then _ _ (subst (λ (z : ℕ). Refused (step_by lm il c start' t (on o n (kinded z p ∷ ps)))) (sym g.1) (step_none c start' t o n p ps)))
+          (refused_then _ _ (subst (λ (z : ℕ). Refused (step_by lm il c (lo (input lm start')) t (on o n (kinded z p ∷ ps)))) (sym g.1) (step_none c start' t o n p ps)))
 
-      same_told : Joined m Live k s (on o n (p ∷ ps)) → Told m Live k (cond (nat_lt (goes_expr c (ends t) (input lm (on o n (p ∷ ps)))) l) (Ok (finished t, on o n (p ∷ ps))) (step_by lm il c start' t (on o n (p ∷ ps)) >>= λ x. Ok (go_on x.0, x.1)))
-          (cond (nat_lt (goes_expr c (ends t) (input m s)) l) (Ok (finished t, s)) (step_by m im c start t s >>= λ x. Ok (go_on x.0, x.1)))
+      same_told : Joined m Live k s (on o n (p ∷ ps)) → Told m Live k (cond (nat_lt (goes_expr c (ends t) (input lm (on o n (p ∷ ps)))) l) (Ok (finished t, on o n (p ∷ ps))) (step_by lm il c (lo (input lm start')) t (on o n (p ∷ ps)) >>= λ x. Ok (go_on x.0, x.1)))
+          (cond (nat_lt (goes_expr c (ends t) (input m s)) l) (Ok (finished t, s)) (step_by m im c (lo (input m start)) t s >>= λ x. Ok (go_on x.0, x.1)))
       same_told j = told_if w k _ _ (joined2 w (λ z. nat_lt (goes_expr c (ends t) (record { last = 0; places = z })) l) (λ n p q l v. refl) (λ n p q l v. refl) (λ n p l v. refl) k s (on o n (p ∷ ps)) j) _ _ _ _ (λ _. told_ok w k _ _ s (on o n (p ∷ ps)) h refl)
           (λ _. told_then w k _ _ _ _ (step_by_told k c ce startc start start' sth t s (on o n (p ∷ ps)) j) (λ x0 x1 x1' x1h. told_ok w k _ _ x1 x1' x1h refl))
 
-      by_hands : HandsOut m (p ∷ ps) s.source → Told m Live k (cond (nat_lt (goes_expr c (ends t) (input lm (on o n (p ∷ ps)))) l) (Ok (finished t, on o n (p ∷ ps))) (step_by lm il c start' t (on o n (p ∷ ps)) >>= λ x. Ok (go_on x.0, x.1)))
-          (cond (nat_lt (goes_expr c (ends t) (input m s)) l) (Ok (finished t, s)) (step_by m im c start t s >>= λ x. Ok (go_on x.0, x.1)))
+      by_hands : HandsOut m (p ∷ ps) s.source → Told m Live k (cond (nat_lt (goes_expr c (ends t) (input lm (on o n (p ∷ ps)))) l) (Ok (finished t, on o n (p ∷ ps))) (step_by lm il c (lo (input lm start')) t (on o n (p ∷ ps)) >>= λ x. Ok (go_on x.0, x.1)))
+          (cond (nat_lt (goes_expr c (ends t) (input m s)) l) (Ok (finished t, s)) (step_by m im c (lo (input m start)) t s >>= λ x. Ok (go_on x.0, x.1)))
       by_hands (inl g) = same_told (joined_to w k s o n p ps h g.0 g.1 g.2)
       by_hands (inr g) = reread_told g.0 g.1 g.3 g.4
 
-  pub loop_step_told : (k : Ceiling) (c : Code) (ce : c.context.module_ ≡ modular) (l : ℕ) (startc : Ceiling) (start : State S) (start' : State Input) (starth : Beside m Live startc start start') (t : Tree) (s : State S) (s' : State Input) (sh : Beside m Live k s s') → Told m Live k (loop_step lm il c l start' t s') (loop_step m im c l start t s)
+  pub loop_step_told : (k : Ceiling) (c : Code) (ce : c.context.module_ ≡ modular) (l : ℕ) (startc : Ceiling) (start : State S) (start' : State Input) (starth : Beside m Live startc start start') (t : Tree) (s : State S) (s' : State Input) (sh : Beside m Live k s s') → Told m Live k (loop_step lm il c l (lo (input lm start')) t s') (loop_step m im c l (lo (input m start)) t s)
   loop_step_told k c ce l startc start start' starth t s s' sh = loop_on k c ce l startc start start' starth t s s'.commas s'.source.last s'.source.places sh
 
-  pub loop_by_told : (k : Ceiling) (c : Code) (ce : c.context.module_ ≡ modular) (l : ℕ) (startc : Ceiling) (start : State S) (start' : State Input) (starth : Beside m Live startc start start') (t : Tree) (s : State S) (s' : State Input) (sh : Beside m Live k s s') → Told m Live k (loop_by lm il c l start' t s') (loop_by m im c l start t s)
+  pub loop_by_told : (k : Ceiling) (c : Code) (ce : c.context.module_ ≡ modular) (l : ℕ) (startc : Ceiling) (start : State S) (start' : State Input) (starth : Beside m Live startc start start') (t : Tree) (s : State S) (s' : State Input) (sh : Beside m Live k s s') → Told m Live k (loop_by lm il c l (lo (input lm start')) t s') (loop_by m im c l (lo (input m start)) t s)
   unfolding loop_by
   loop_by_told k c ce l startc start start' starth t s s' sh = told_if w k (nat_le l (level t)) (nat_le l (level t)) refl _ _ _ _ (λ _. told_iterate w _ _ (λ k2 x sx sx' sxh. loop_step_told k2 c ce l startc start start' starth x sx sx' sxh) k t s s' sh)
       (λ _. told_if w k ((level t == new_level) && (l == member_level)) ((level t == new_level) && (l == member_level)) refl _ _ _ _ (λ _. told_ok w k _ _ s s' sh refl) (λ _. never w k _ _))

@@ -5,7 +5,7 @@ use Rattle.base_token.specs.declared.place.Span.{Span}
 use Rattle.base_token.specs.Kinds.{div_kind, div_assign_kind, async_kind, left_brace_kind, right_brace_kind, comma_kind, mul_kind, str_kind, shebang_kind, default_kind, function_kind, with_kind, class_kind, export_kind, import_kind, as_kind, assert_kind, from_kind}
 use Rattle.base_token.specs.Tokens.{Content}
 use Rattle.tree_spec.specs.Tree.{Tree, none, more, pack, import_decl, export_decl, named_export, export_default_decl, export_default_expr, export_all, import_named_specifier, import_default_specifier, import_star_as_specifier, export_namespace_specifier, export_named_specifier, ident, absent}
-use Rattle.grammar_spec.specs.Tokens.Input.{Input, Code, kind, brk, content, is_word, in_list, turned_strict}
+use Rattle.grammar_spec.specs.Tokens.Input.{Input, Code, kind, brk, content, is_word, in_list, turned_strict, lo}
 use Rattle.grammar_spec.specs.Tokens.Operators.{assignment_level}
 use Rattle.grammar_spec.specs.Tokens.Shape.{is_use_strict, is_attributes, is_exportable}
 use Rattle.grammar_spec.specs.Reader.Source.{is_nil, unexpected, Stream, State, input, past, operand, retold, spanned, at, ended, Inner}
@@ -65,40 +65,40 @@ module _ {S : Type 0} {m : Stream S} {Live : S → Type 0} {modular : Bool} (w :
   unfolding star_import
   star_import_told k c ce s s' sh = told_eat w k mul_kind (refl, refl, refl, refl) s s' sh _ _ (λ j1. told_word w k c as_kind (refl, refl, refl, refl) (past m s) (past lm s') j1.after _ _ (λ j2. told_then w k _ _ _ _ (local_by_told k c ce (past m (past m s)) (past lm (past lm s')) j2.after) (λ l0 l1 l1' l1h. told_ok w k _ _ l1 l1' l1h (ap (λ (z : Span). import_star_as_specifier z l0) (span_same w k k s l1 s' l1' sh l1h)))))
 
-  pub import_end_told : (k : Ceiling) (c : Code) (ce : c.context.module_ ≡ modular) (startc : Ceiling) (start : State S) (start' : State Input) (starth : Beside m Live startc start start') (xs : List Tree) (s : State S) (s' : State Input) (sh : Beside m Live k s s') → Told m Live k (import_end lm il c start' xs s') (import_end m im c start xs s)
+  pub import_end_told : (k : Ceiling) (c : Code) (ce : c.context.module_ ≡ modular) (startc : Ceiling) (start : State S) (start' : State Input) (starth : Beside m Live startc start start') (xs : List Tree) (s : State S) (s' : State Input) (sh : Beside m Live k s s') → Told m Live k (import_end lm il c (lo (input lm start')) xs s') (import_end m im c (lo (input m start)) xs s)
   unfolding import_end
   import_end_told k c ce startc start start' starth xs s s' sh = told_word w k c from_kind (refl, refl, refl, refl) s s' sh _ _ (λ j1. told_then w k _ _ _ _ (source_by_told k c ce (past m s) (past lm s') j1.after) (λ f0 f1 f1' f1h. told_ok w k _ _ f1 f1' f1h (ap (λ (z : Span). import_decl z (pack xs) f0.src f0.with_) (span_same w startc k start f1 start' f1' starth f1h))))
 
-  pub import_rest_told : (k : Ceiling) (c : Code) (ce : c.context.module_ ≡ modular) (startc : Ceiling) (start : State S) (start' : State Input) (starth : Beside m Live startc start start') (xs : List Tree) (s : State S) (s' : State Input) (sh : Beside m Live k s s') → Told m Live k (import_rest lm il c start' xs s') (import_rest m im c start xs s)
+  pub import_rest_told : (k : Ceiling) (c : Code) (ce : c.context.module_ ≡ modular) (startc : Ceiling) (start : State S) (start' : State Input) (starth : Beside m Live startc start start') (xs : List Tree) (s : State S) (s' : State Input) (sh : Beside m Live k s s') → Told m Live k (import_rest lm il c (lo (input lm start')) xs s') (import_rest m im c (lo (input m start)) xs s)
   unfolding import_rest
   import_rest_told k c ce startc start start' starth xs s s' sh = told_at w k mul_kind (refl, refl, refl, refl) s s' sh _ _ _ _ (λ j1. told_then w k _ _ _ _ (star_import_told k c ce s s' sh) (λ x0 x1 x1' x1h. import_end_told k c ce startc start start' starth (xs ++ x0 ∷ []) x1 x1' x1h)) (told_eat w k left_brace_kind (refl, refl, refl, refl) s s' sh _ _ (λ j2. told_then w k _ _ _ _ (specifiers_by_told k true c ce (past m s) (past lm s') j2.after) (λ ys0 ys1 ys1' ys1h. import_end_told k c ce startc start start' starth (xs ++ ys0) ys1 ys1' ys1h)))
 
-  pub import_default_told : (k : Ceiling) (c : Code) (ce : c.context.module_ ≡ modular) (startc : Ceiling) (start : State S) (start' : State Input) (starth : Beside m Live startc start start') (s : State S) (s' : State Input) (sj : Joined m Live k s s') → Told m Live k (import_default lm il c start' s') (import_default m im c start s)
+  pub import_default_told : (k : Ceiling) (c : Code) (ce : c.context.module_ ≡ modular) (startc : Ceiling) (start : State S) (start' : State Input) (starth : Beside m Live startc start start') (s : State S) (s' : State Input) (sj : Joined m Live k s s') → Told m Live k (import_default lm il c (lo (input lm start')) s') (import_default m im c (lo (input m start)) s)
   unfolding import_default
-  import_default_told k c ce startc start start' starth s s' sj = told_then w k _ _ _ _ (local_by_told k c ce s s' sj.base) (λ l0 l1 l1' l1h. told_at w k comma_kind (refl, refl, refl, refl) l1 l1' l1h _ _ _ _ (λ j1. subst (λ (z : List Tree). Told m Live k (import_rest lm il c start' (import_default_specifier (first lm il s') l0 ∷ []) (past lm l1')) (import_rest m im c start z (past m l1))) (ap (λ (z : Span). (import_default_specifier z l0 ∷ [])) (first_same w k s s' sj)) (import_rest_told k c ce startc start start' starth (import_default_specifier (first lm il s') l0 ∷ []) (past m l1) (past lm l1') j1.after)) (subst (λ (z : List Tree). Told m Live k (import_end lm il c start' (import_default_specifier (first lm il s') l0 ∷ []) l1') (import_end m im c start z l1)) (ap (λ (z : Span). (import_default_specifier z l0 ∷ [])) (first_same w k s s' sj)) (import_end_told k c ce startc start start' starth (import_default_specifier (first lm il s') l0 ∷ []) l1 l1' l1h)))
+  import_default_told k c ce startc start start' starth s s' sj = told_then w k _ _ _ _ (local_by_told k c ce s s' sj.base) (λ l0 l1 l1' l1h. told_at w k comma_kind (refl, refl, refl, refl) l1 l1' l1h _ _ _ _ (λ j1. subst (λ (z : List Tree). Told m Live k (import_rest lm il c (lo (input lm start')) (import_default_specifier (first lm il s') l0 ∷ []) (past lm l1')) (import_rest m im c (lo (input m start)) z (past m l1))) (ap (λ (z : Span). (import_default_specifier z l0 ∷ [])) (first_same w k s s' sj)) (import_rest_told k c ce startc start start' starth (import_default_specifier (first lm il s') l0 ∷ []) (past m l1) (past lm l1') j1.after)) (subst (λ (z : List Tree). Told m Live k (import_end lm il c (lo (input lm start')) (import_default_specifier (first lm il s') l0 ∷ []) l1') (import_end m im c (lo (input m start)) z l1)) (ap (λ (z : Span). (import_default_specifier z l0 ∷ [])) (first_same w k s s' sj)) (import_end_told k c ce startc start start' starth (import_default_specifier (first lm il s') l0 ∷ []) l1 l1' l1h)))
 
   pub import_decl_by_told : (k : Ceiling) (c : Code) (ce : c.context.module_ ≡ modular) (s : State S) (s' : State Input) (sh : Beside m Live k s s') → Told m Live k (import_decl_by lm il c s') (import_decl_by m im c s)
   unfolding import_decl_by
   import_decl_by_told k c ce s s' sh = told_word w k c import_kind (refl, refl, refl, refl) s s' sh _ _ (λ j1. told_at w k str_kind (refl, refl, refl, refl) (past m s) (past lm s') j1.after _ _ _ _ (λ j2. told_then w k _ _ _ _ (source_by_told k c ce (past m s) (past lm s') j1.after) (λ f0 f1 f1' f1h. told_ok w k _ _ f1 f1' f1h (ap (λ (z : Span). import_decl z none f0.src f0.with_) (span_same w k k s f1 s' f1' sh f1h)))) (told_if w k _ _ (agree1 w (λ z. is_word (kind (input lm (on [] 0 z)))) (λ p q l v. refl) (λ p q l v. refl) (λ p l v. refl) k (past m s) (past lm s') j1.after) _ _ _ _ (λ y3. import_default_told k c ce k s s' sh (past m s) (past lm s') (joined_by w (is_word) refl refl k (past m s) (past lm s') j1.after y3)) (λ _. import_rest_told k c ce k s s' sh [] (past m s) (past lm s') j1.after)))
 
-  pub export_default_told : (k : Ceiling) (c : Code) (ce : c.context.module_ ≡ modular) (startc : Ceiling) (start : State S) (start' : State Input) (starth : Beside m Live startc start start') (s : State S) (s' : State Input) (sh : Beside m Live k s s') → Told m Live k (export_default lm il c start' s') (export_default m im c start s)
+  pub export_default_told : (k : Ceiling) (c : Code) (ce : c.context.module_ ≡ modular) (startc : Ceiling) (start : State S) (start' : State Input) (starth : Beside m Live startc start start') (s : State S) (s' : State Input) (sh : Beside m Live k s s') → Told m Live k (export_default lm il c (lo (input lm start')) s') (export_default m im c (lo (input m start)) s)
   unfolding export_default
   export_default_told k c ce startc start start' starth s s' sh = told_at w k function_kind (refl, refl, refl, refl) s s' sh _ _ _ _ (λ j1. told_then w k _ _ _ _ (function_expr_by_told w told k c ce k s s' sh false s s' sh) (λ d0 d1 d1' d1h. told_ok w k _ _ d1 d1' d1h (ap (λ (z : Span). export_default_decl z d0) (span_same w startc k start d1 start' d1' starth d1h)))) (told_if w k _ _ (agree2 w (λ z. starts_async lm il (on [] 0 z)) (λ p q l v. refl) (λ p q l v. refl) (λ n p q l v. refl) (λ n p q l v. refl) (λ n p l v. refl) k s s' sh) _ _ _ _ (λ y2. told_then w k _ _ _ _ (function_expr_by_told w told k c ce k s s' sh true (past m s) (past lm s') (joined_at w async_kind (refl, refl, refl, refl) k s s' sh (and_first _ _ y2)).after) (λ d0 d1 d1' d1h. told_ok w k _ _ d1 d1' d1h (ap (λ (z : Span). export_default_decl z d0) (span_same w startc k start d1 start' d1' starth d1h)))) (λ _. told_at w k class_kind (refl, refl, refl, refl) s s' sh _ _ _ _ (λ j3. told_then w k _ _ _ _ (class_expr_by_told w told k c ce s s' sh) (λ d0 d1 d1' d1h. told_ok w k _ _ d1 d1' d1h (ap (λ (z : Span). export_default_decl z d0) (span_same w startc k start d1 start' d1' starth d1h)))) (told_then w k _ _ _ _ (told.expr k c ce assignment_level s s' sh) (λ e0 e1 e1' e1h. told_end w k c _ _ refl e1 e1' e1h _ _ (λ r1 r1' r1h. told_ok w k _ _ r1 r1' r1h (ap (λ (z : Span). export_default_expr z e0) (span_same w startc k start r1 start' r1' starth r1h)))))))
 
-  pub export_star_told : (k : Ceiling) (c : Code) (ce : c.context.module_ ≡ modular) (startc : Ceiling) (start : State S) (start' : State Input) (starth : Beside m Live startc start start') (s : State S) (s' : State Input) (sh : Beside m Live k s s') → Told m Live k (export_star lm il c start' s') (export_star m im c start s)
+  pub export_star_told : (k : Ceiling) (c : Code) (ce : c.context.module_ ≡ modular) (startc : Ceiling) (start : State S) (start' : State Input) (starth : Beside m Live startc start start') (s : State S) (s' : State Input) (sh : Beside m Live k s s') → Told m Live k (export_star lm il c (lo (input lm start')) s') (export_star m im c (lo (input m start)) s)
   unfolding export_star
-  export_star_told k c ce startc start start' starth s s' sh = told_eat w k mul_kind (refl, refl, refl, refl) s s' sh _ _ (λ j1. told_at w k as_kind (refl, refl, refl, refl) (past m s) (past lm s') j1.after _ _ _ _ (λ j2. told_word w k c as_kind (refl, refl, refl, refl) (past m s) (past lm s') j1.after _ _ (λ j3. told_then w k _ _ _ _ (export_name_by_told k (past m (past m s)) (past lm (past lm s')) j3.after) (λ n0 n1 n1' n1h. told_word w k c from_kind (refl, refl, refl, refl) n1 n1' n1h _ _ (λ j4. told_then w k _ _ _ _ (source_by_told k c ce (past m n1) (past lm n1') j4.after) (λ x0 x1 x1' x1h. told_ok w k _ _ x1 x1' x1h (ap (λ (z : Span). named_export z (more (export_namespace_specifier (spanned lm s' n1') n0) none) x0.src x0.with_) (span_same w startc k start x1 start' x1' starth x1h) ∙ (ap (λ (z : Span). named_export (spanned m start x1) (more (export_namespace_specifier z n0) none) x0.src x0.with_) (span_same w k k s n1 s' n1' sh n1h)))))))) (told_word w k c from_kind (refl, refl, refl, refl) (past m s) (past lm s') j1.after _ _ (λ j5. told_then w k _ _ _ _ (source_by_told k c ce (past m (past m s)) (past lm (past lm s')) j5.after) (λ x0 x1 x1' x1h. told_ok w k _ _ x1 x1' x1h (ap (λ (z : Span). export_all z x0.src x0.with_) (span_same w startc k start x1 start' x1' starth x1h))))))
+  export_star_told k c ce startc start start' starth s s' sh = told_eat w k mul_kind (refl, refl, refl, refl) s s' sh _ _ (λ j1. told_at w k as_kind (refl, refl, refl, refl) (past m s) (past lm s') j1.after _ _ _ _ (λ j2. told_word w k c as_kind (refl, refl, refl, refl) (past m s) (past lm s') j1.after _ _ (λ j3. told_then w k _ _ _ _ (export_name_by_told k (past m (past m s)) (past lm (past lm s')) j3.after) (λ n0 n1 n1' n1h. told_word w k c from_kind (refl, refl, refl, refl) n1 n1' n1h _ _ (λ j4. told_then w k _ _ _ _ (source_by_told k c ce (past m n1) (past lm n1') j4.after) (λ x0 x1 x1' x1h. told_ok w k _ _ x1 x1' x1h (ap (λ (z : Span). named_export z (more (export_namespace_specifier (spanned lm (lo (input lm s')) n1') n0) none) x0.src x0.with_) (span_same w startc k start x1 start' x1' starth x1h) ∙ (ap (λ (z : Span). named_export (spanned m (lo (input m start)) x1) (more (export_namespace_specifier z n0) none) x0.src x0.with_) (span_same w k k s n1 s' n1' sh n1h)))))))) (told_word w k c from_kind (refl, refl, refl, refl) (past m s) (past lm s') j1.after _ _ (λ j5. told_then w k _ _ _ _ (source_by_told k c ce (past m (past m s)) (past lm (past lm s')) j5.after) (λ x0 x1 x1' x1h. told_ok w k _ _ x1 x1' x1h (ap (λ (z : Span). export_all z x0.src x0.with_) (span_same w startc k start x1 start' x1' starth x1h))))))
 
-  pub export_list_told : (k : Ceiling) (c : Code) (ce : c.context.module_ ≡ modular) (startc : Ceiling) (start : State S) (start' : State Input) (starth : Beside m Live startc start start') (s : State S) (s' : State Input) (sh : Beside m Live k s s') → Told m Live k (export_list lm il c start' s') (export_list m im c start s)
+  pub export_list_told : (k : Ceiling) (c : Code) (ce : c.context.module_ ≡ modular) (startc : Ceiling) (start : State S) (start' : State Input) (starth : Beside m Live startc start start') (s : State S) (s' : State Input) (sh : Beside m Live k s s') → Told m Live k (export_list lm il c (lo (input lm start')) s') (export_list m im c (lo (input m start)) s)
   unfolding export_list
   export_list_told k c ce startc start start' starth s s' sh = told_eat w k left_brace_kind (refl, refl, refl, refl) s s' sh _ _ (λ j1. told_then w k _ _ _ _ (specifiers_by_told k false c ce (past m s) (past lm s') j1.after) (λ xs0 xs1 xs1' xs1h. told_at w k from_kind (refl, refl, refl, refl) xs1 xs1' xs1h _ _ _ _ (λ j2. told_word w k c from_kind (refl, refl, refl, refl) xs1 xs1' xs1h _ _ (λ j3. told_then w k _ _ _ _ (source_by_told k c ce (past m xs1) (past lm xs1') j3.after) (λ x0 x1 x1' x1h. told_ok w k _ _ x1 x1' x1h (ap (λ (z : Span). named_export z (pack xs0) x0.src x0.with_) (span_same w startc k start x1 start' x1' starth x1h))))) (told_end w k c _ _ refl xs1 xs1' xs1h _ _ (λ e1 e1' e1h. told_ok w k _ _ e1 e1' e1h (ap (λ (z : Span). named_export z (pack xs0) absent absent) (span_same w startc k start e1 start' e1' starth e1h))))))
 
-  default_refused : (c : Code) (start r : State Input) → is_slash (kind (input lm r)) ≡ true → Refused (export_default lm il c start r)
+  default_refused : (c : Code) (start r : State Input) → is_slash (kind (input lm r)) ≡ true → Refused (export_default lm il c (lo (input lm start)) r)
   unfolding export_default
-  default_refused c start r e = at_slash (λ z. is_slash (kind (input lm z)) ≡ true → Refused (export_default lm il c start z)) (λ o n p l i. refused_then _ _ (told.no_expr c assignment_level (on o n (kinded div_assign_kind p ∷ l)) i))
+  default_refused c start r e = at_slash (λ z. is_slash (kind (input lm z)) ≡ true → Refused (export_default lm il c (lo (input lm start)) z)) (λ o n p l i. refused_then _ _ (told.no_expr c assignment_level (on o n (kinded div_assign_kind p ∷ l)) i))
       (λ o n p l i. refused_then _ _ (told.no_expr c assignment_level (on o n (kinded div_kind p ∷ l)) i)) r e e
 
-  default_told : (k : Ceiling) (c : Code) (ce : c.context.module_ ≡ modular) (startc : Ceiling) (start : State S) (start' : State Input) → Beside m Live startc start start' → (s : State S) (s' : State Input) → Beside m Live k s s' → Told m Live k (export_default lm il c start' s') (export_default m im c start (operand m s))
+  default_told : (k : Ceiling) (c : Code) (ce : c.context.module_ ≡ modular) (startc : Ceiling) (start : State S) (start' : State Input) → Beside m Live startc start start' → (s : State S) (s' : State Input) → Beside m Live k s s' → Told m Live k (export_default lm il c (lo (input lm start')) s') (export_default m im c (lo (input m start)) (operand m s))
   default_told k c ce startc start start' sth s s' h = told_operand w k s s' h (λ e. told_refused m Live k _ _ (default_refused c start' s' e)) (λ oh fresh. export_default_told k c ce startc start start' sth (operand m s) s' oh)
 
   pub export_by_told : (k : Ceiling) (c : Code) (ce : c.context.module_ ≡ modular) (s : State S) (s' : State Input) (sh : Beside m Live k s s') → Told m Live k (export_by lm il c s') (export_by m im c s)
@@ -140,18 +140,18 @@ module _ {S : Type 0} {m : Stream S} {Live : S → Type 0} {modular : Bool} (w :
   unfolding program_step program_item
   program_step_keeps modules b r e = keeps_if (ended lm r) _ _ (record { so = tt }) (keeps_then _ _ (λ t. keeps_if (b.starts && is_use_strict t.0) _ _ (record { so = e }) (record { so = e })))
 
-  pub program_rest_told : (k : Ceiling) (modules : Bool) (c : Code) (ce : c.context.module_ ≡ modular) (startc : Ceiling) (start : State S) (start' : State Input) (starth : Beside m Live startc start start') (l : Option (List ℕ)) (s : State S) (s' : State Input) (sh : Beside m Live k s s') → Told m Live k (program_rest lm il modules c start' l s') (program_rest m im modules c start l s)
+  pub program_rest_told : (k : Ceiling) (modules : Bool) (c : Code) (ce : c.context.module_ ≡ modular) (startc : Ceiling) (start : State S) (start' : State Input) (starth : Beside m Live startc start start') (l : Option (List ℕ)) (s : State S) (s' : State Input) (sh : Beside m Live k s s') → Told m Live k (program_rest lm il modules c (lo (input lm start')) l s') (program_rest m im modules c (lo (input m start)) l s)
   unfolding program_rest
   program_rest_told k modules c ce startc start start' starth l s s' sh = told_then w k _ _ _ _ (told_iterate_in w (λ (z : Body). z.code.context.module_ ≡ modular) _ _ (λ k2 x1 sx sx' inv sxh. program_step_told k2 modules x1 inv sx sx' sxh) (λ x1 r' inv. program_step_keeps modules x1 r' inv) k (record { items = []; code = c; starts = true }) s s' ce sh) (λ b0 b1 b1' b1h. told_ok w k _ _ b1 b1' b1h (ap (λ (z : Span). program_tree m im modules z (pack b0.items) l) (span_same w startc k start b1 start' b1' starth b1h)))
 
   line_told : (k : Ceiling) (modules : Bool) (c : Code) (ce : c.context.module_ ≡ modular) (s : State S) (s' : State Input) → Beside m Live k s s' → (r : State S) (r' : State Input) → Beside m Live k r r' → (t : Option (List ℕ))
-      → Told m Live {A = Tree} k (elim t [ None ↦ unexpected lm s' | Some l ↦ program_rest lm il modules c s' (Some l) r' ]) (elim t [ None ↦ unexpected m s | Some l ↦ program_rest m im modules c s (Some l) r ])
+      → Told m Live {A = Tree} k (elim t [ None ↦ unexpected lm s' | Some l ↦ program_rest lm il modules c (lo (input lm s')) (Some l) r' ]) (elim t [ None ↦ unexpected m s | Some l ↦ program_rest m im modules c (lo (input m s)) (Some l) r ])
   line_told k modules c ce s s' sh r r' rh None = never w k _ _
   line_told k modules c ce s s' sh r r' rh (Some l) = program_rest_told k modules c ce k s s' sh (Some l) r r' rh
 
   pub program_by_told : (k : Ceiling) (modules : Bool) (c : Code) (ce : c.context.module_ ≡ modular) (s : State S) (s' : State Input) (sh : Beside m Live k s s') → Told m Live k (program_by lm il modules c s') (program_by m im modules c s)
   unfolding program_by
   program_by_told k modules c ce s s' sh = told_at w k shebang_kind (refl, refl, refl, refl) s s' sh _ _ _ _
-      (λ j. subst (λ (z : Option (List ℕ)). Told m Live {A = Tree} k (elim (line_of lm il (content (input lm s'))) [ None ↦ unexpected lm s' | Some l ↦ program_rest lm il modules c s' (Some l) (past lm s') ]) (elim z [ None ↦ unexpected m s | Some l ↦ program_rest m im modules c s (Some l) (past m s) ]))
+      (λ j. subst (λ (z : Option (List ℕ)). Told m Live {A = Tree} k (elim (line_of lm il (content (input lm s'))) [ None ↦ unexpected lm s' | Some l ↦ program_rest lm il modules c (lo (input lm s')) (Some l) (past lm s') ]) (elim z [ None ↦ unexpected m s | Some l ↦ program_rest m im modules c (lo (input m s)) (Some l) (past m s) ]))
       (ap (λ (z : Content). line_of lm il z) (content_as w k s s' j) ∙ same_line m im il (content (input m s))) (line_told k modules c ce s s' sh (past m s) (past lm s') j.after (line_of lm il (content (input lm s')))))
       (program_rest_told k modules c ce k s s' sh None s s' sh)

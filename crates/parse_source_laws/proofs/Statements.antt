@@ -69,7 +69,7 @@ module _ {S : Type 0} {m : Stream S} {Live : S → Type 0} {modular : Bool} (w :
       less true b d y = refl
       less false b d y = and_second b d y
 
-  pub initial_pat_told : (k : Ceiling) (c : Code) (ce : c.context.module_ ≡ modular) (startc : Ceiling) (start : State S) (start' : State Input) (starth : Beside m Live startc start start') (p : Tree) (s : State S) (s' : State Input) (sh : Beside m Live k s s') → Told m Live k (initial_pat lm il c start' p s') (initial_pat m im c start p s)
+  pub initial_pat_told : (k : Ceiling) (c : Code) (ce : c.context.module_ ≡ modular) (startc : Ceiling) (start : State S) (start' : State Input) (starth : Beside m Live startc start start') (p : Tree) (s : State S) (s' : State Input) (sh : Beside m Live k s s') → Told m Live k (initial_pat lm il c (lo (input lm start')) p s') (initial_pat m im c (lo (input m start)) p s)
   unfolding initial_pat
   initial_pat_told k c ce startc start start' starth p s s' sh = told_at w k assign_kind (refl, refl, refl, refl) s s' sh _ _ _ _ (λ j1. told_then w k _ _ _ _ (told.expr k (with_in c) ce assignment_level (past m s) (past lm s') j1.after) (λ e0 e1 e1' e1h. told_ok w k _ _ e1 e1' e1h (ap (λ (z : Span). assign_pat z p e0) (span_same w startc k start e1 start' e1' starth e1h)))) (told_ok w k _ _ s s' sh refl)
 
@@ -79,19 +79,19 @@ module _ {S : Type 0} {m : Stream S} {Live : S → Type 0} {modular : Bool} (w :
 
   pub array_item_told : (k : Ceiling) (c : Code) (ce : c.context.module_ ≡ modular) (xs : List Tree) (s : State S) (s' : State Input) (sh : Beside m Live k s s') → Told m Live k (array_item lm il c xs s') (array_item m im c xs s)
   unfolding array_item
-  array_item_told k c ce xs s s' sh = told_at w k right_bracket_kind (refl, refl, refl, refl) s s' sh _ _ _ _ (λ j1. told_ok w k _ _ (past m s) (past lm s') j1.after refl) (told_at w k comma_kind (refl, refl, refl, refl) s s' sh _ _ _ _ (λ j2. told_ok w k _ _ (past m s) (past lm s') j2.after refl) (told_at w k dot_dot_dot_kind (refl, refl, refl, refl) s s' sh _ _ _ _ (λ j3. told_then w k _ _ _ _ (told.pat k (with_in c) ce (past m s) (past lm s') j3.after) (λ p0 p1 p1' p1h. subst (λ (z : List Tree). Told m Live k (after_item lm il right_bracket_kind true (xs ++ rest_pat (spanned lm s' p1') (dots_at (lo (input lm s'))) p0 ∷ []) p1') (after_item m im right_bracket_kind true z p1)) (ap (λ (z : Span). (xs ++ rest_pat z (dots_at (lo (input lm s'))) p0 ∷ [])) (span_same w k k s p1 s' p1' sh p1h) ∙ (ap (λ (z : ℕ). (xs ++ rest_pat (spanned m s p1) (dots_at z) p0 ∷ [])) (lo_same w k s s' sh))) (after_item_told k right_bracket_kind (refl, refl, refl, refl) true (xs ++ rest_pat (spanned lm s' p1') (dots_at (lo (input lm s'))) p0 ∷ []) p1 p1' p1h))) (told_then w k _ _ _ _ (told.pat k (with_in c) ce s s' sh) (λ p0 p1 p1' p1h. told_then w k _ _ _ _ (initial_pat_told k c ce k s s' sh p0 p1 p1' p1h) (λ q0 q1 q1' q1h. after_item_told k right_bracket_kind (refl, refl, refl, refl) false (xs ++ q0 ∷ []) q1 q1' q1h)))))
+  array_item_told k c ce xs s s' sh = told_at w k right_bracket_kind (refl, refl, refl, refl) s s' sh _ _ _ _ (λ j1. told_ok w k _ _ (past m s) (past lm s') j1.after refl) (told_at w k comma_kind (refl, refl, refl, refl) s s' sh _ _ _ _ (λ j2. told_ok w k _ _ (past m s) (past lm s') j2.after refl) (told_at w k dot_dot_dot_kind (refl, refl, refl, refl) s s' sh _ _ _ _ (λ j3. told_then w k _ _ _ _ (told.pat k (with_in c) ce (past m s) (past lm s') j3.after) (λ p0 p1 p1' p1h. subst (λ (z : List Tree). Told m Live k (after_item lm il right_bracket_kind true (xs ++ rest_pat (spanned lm (lo (input lm s')) p1') (dots_at (lo (input lm s'))) p0 ∷ []) p1') (after_item m im right_bracket_kind true z p1)) (ap (λ (z : Span). (xs ++ rest_pat z (dots_at (lo (input lm s'))) p0 ∷ [])) (span_same w k k s p1 s' p1' sh p1h) ∙ (ap (λ (z : ℕ). (xs ++ rest_pat (spanned m (lo (input m s)) p1) (dots_at z) p0 ∷ [])) (lo_same w k s s' sh))) (after_item_told k right_bracket_kind (refl, refl, refl, refl) true (xs ++ rest_pat (spanned lm (lo (input lm s')) p1') (dots_at (lo (input lm s'))) p0 ∷ []) p1 p1' p1h))) (told_then w k _ _ _ _ (told.pat k (with_in c) ce s s' sh) (λ p0 p1 p1' p1h. told_then w k _ _ _ _ (initial_pat_told k c ce k s s' sh p0 p1 p1' p1h) (λ q0 q1 q1' q1h. after_item_told k right_bracket_kind (refl, refl, refl, refl) false (xs ++ q0 ∷ []) q1 q1' q1h)))))
 
   pub array_pat_by_told : (k : Ceiling) (c : Code) (ce : c.context.module_ ≡ modular) (s : State S) (s' : State Input) (sj : Joined m Live k s s') → Told m Live k (array_pat_by lm il c s') (array_pat_by m im c s)
   unfolding array_pat_by
   array_pat_by_told k c ce s s' sj = told_then w k _ _ _ _ (told_iterate w _ _ (λ k2 x1 sx sx' sxh. array_item_told k2 c ce x1 sx sx' sxh) k [] (past m s) (past lm s') sj.after) (λ xs0 xs1 xs1' xs1h. told_ok w k _ _ xs1 xs1' xs1h (ap (λ (z : Span). array_pat z (pack xs0)) (span_same w k k s xs1 s' xs1' sj.base xs1h)))
 
-  pub keyed_item_told : (k : Ceiling) (c : Code) (ce : c.context.module_ ≡ modular) (startc : Ceiling) (start : State S) (start' : State Input) (starth : Beside m Live startc start start') (key : Tree) (s : State S) (s' : State Input) (sh : Beside m Live k s s') → Told m Live k (keyed_item lm il c start' key s') (keyed_item m im c start key s)
+  pub keyed_item_told : (k : Ceiling) (c : Code) (ce : c.context.module_ ≡ modular) (startc : Ceiling) (start : State S) (start' : State Input) (starth : Beside m Live startc start start') (key : Tree) (s : State S) (s' : State Input) (sh : Beside m Live k s s') → Told m Live k (keyed_item lm il c (lo (input lm start')) key s') (keyed_item m im c (lo (input m start)) key s)
   unfolding keyed_item
   keyed_item_told k c ce startc start start' starth key s s' sh = told_then w k _ _ _ _ (told.pat k (with_in c) ce s s' sh) (λ p0 p1 p1' p1h. told_then w k _ _ _ _ (initial_pat_told k c ce k s s' sh p0 p1 p1' p1h) (λ q0 q1 q1' q1h. told_ok w k _ _ q1 q1' q1h (ap (λ (z : Span). key_value_pat_prop z key q0) (span_same w startc k start q1 start' q1' starth q1h))))
 
   pub named_item_told : (k : Ceiling) (c : Code) (ce : c.context.module_ ≡ modular) (r : State S) (r' : State Input) (s : State S) (s' : State Input) (sh : Beside m Live k s s') → Told m Live k (named_item lm il c r' s') (named_item m im c r s)
   unfolding named_item
-  named_item_told k c ce r r' s s' sh = told_name_of w _ _ k c s s' sh _ _ (λ n0 j1. told_at w k assign_kind (refl, refl, refl, refl) (past m s) (past lm s') j1.after _ _ _ _ (λ j2. told_then w k _ _ _ _ (told.expr k (with_in c) ce assignment_level (past m (past m s)) (past lm (past lm s')) j2.after) (λ e0 e1 e1' e1h. told_ok w k _ _ e1 e1' e1h (ap (λ (z : Span). assign_pat_prop z (binding_ident (first lm il s') (ident (first lm il s') n0)) e0) (span_same w k k s e1 s' e1' sh e1h) ∙ (ap (λ (z : Span). assign_pat_prop (spanned m s e1) (binding_ident z (ident z n0)) e0) (first_same w k s s' j1))))) (told_ok w k _ _ (past m s) (past lm s') j1.after (ap (λ (z : Span). assign_pat_prop z (binding_ident z (ident z n0)) absent) (first_same w k s s' j1))))
+  named_item_told k c ce r r' s s' sh = told_name_of w _ _ k c s s' sh _ _ (λ n0 j1. told_at w k assign_kind (refl, refl, refl, refl) (past m s) (past lm s') j1.after _ _ _ _ (λ j2. told_then w k _ _ _ _ (told.expr k (with_in c) ce assignment_level (past m (past m s)) (past lm (past lm s')) j2.after) (λ e0 e1 e1' e1h. told_ok w k _ _ e1 e1' e1h (ap (λ (z : Span). assign_pat_prop z (binding_ident (first lm il s') (ident (first lm il s') n0)) e0) (span_same w k k s e1 s' e1' sh e1h) ∙ (ap (λ (z : Span). assign_pat_prop (spanned m (lo (input m s)) e1) (binding_ident z (ident z n0)) e0) (first_same w k s s' j1))))) (told_ok w k _ _ (past m s) (past lm s') j1.after (ap (λ (z : Span). assign_pat_prop z (binding_ident z (ident z n0)) absent) (first_same w k s s' j1))))
 
   pub pattern_prop_told : (k : Ceiling) (c : Code) (ce : c.context.module_ ≡ modular) (s : State S) (s' : State Input) (sh : Beside m Live k s s') → Told m Live k (pattern_prop lm il c s') (pattern_prop m im c s)
   unfolding pattern_prop
@@ -99,7 +99,7 @@ module _ {S : Type 0} {m : Stream S} {Live : S → Type 0} {modular : Bool} (w :
 
   pub object_item_told : (k : Ceiling) (c : Code) (ce : c.context.module_ ≡ modular) (xs : List Tree) (s : State S) (s' : State Input) (sh : Beside m Live k s s') → Told m Live k (object_item lm il c xs s') (object_item m im c xs s)
   unfolding object_item
-  object_item_told k c ce xs s s' sh = told_at w k right_brace_kind (refl, refl, refl, refl) s s' sh _ _ _ _ (λ j1. told_ok w k _ _ (past m s) (past lm s') j1.after refl) (told_at w k dot_dot_dot_kind (refl, refl, refl, refl) s s' sh _ _ _ _ (λ j2. told_then w k _ _ _ _ (told.pat k (with_in c) ce (past m s) (past lm s') j2.after) (λ p0 p1 p1' p1h. told_if w k (is_structured p0) (is_structured p0) refl _ _ _ _ (λ _. never w k _ _) (λ _. subst (λ (z : List Tree). Told m Live k (after_item lm il right_brace_kind true (xs ++ rest_pat (spanned lm s' p1') (dots_at (lo (input lm s'))) p0 ∷ []) p1') (after_item m im right_brace_kind true z p1)) (ap (λ (z : Span). (xs ++ rest_pat z (dots_at (lo (input lm s'))) p0 ∷ [])) (span_same w k k s p1 s' p1' sh p1h) ∙ (ap (λ (z : ℕ). (xs ++ rest_pat (spanned m s p1) (dots_at z) p0 ∷ [])) (lo_same w k s s' sh))) (after_item_told k right_brace_kind (refl, refl, refl, refl) true (xs ++ rest_pat (spanned lm s' p1') (dots_at (lo (input lm s'))) p0 ∷ []) p1 p1' p1h)))) (told_then w k _ _ _ _ (pattern_prop_told k c ce s s' sh) (λ p0 p1 p1' p1h. after_item_told k right_brace_kind (refl, refl, refl, refl) false (xs ++ p0 ∷ []) p1 p1' p1h)))
+  object_item_told k c ce xs s s' sh = told_at w k right_brace_kind (refl, refl, refl, refl) s s' sh _ _ _ _ (λ j1. told_ok w k _ _ (past m s) (past lm s') j1.after refl) (told_at w k dot_dot_dot_kind (refl, refl, refl, refl) s s' sh _ _ _ _ (λ j2. told_then w k _ _ _ _ (told.pat k (with_in c) ce (past m s) (past lm s') j2.after) (λ p0 p1 p1' p1h. told_if w k (is_structured p0) (is_structured p0) refl _ _ _ _ (λ _. never w k _ _) (λ _. subst (λ (z : List Tree). Told m Live k (after_item lm il right_brace_kind true (xs ++ rest_pat (spanned lm (lo (input lm s')) p1') (dots_at (lo (input lm s'))) p0 ∷ []) p1') (after_item m im right_brace_kind true z p1)) (ap (λ (z : Span). (xs ++ rest_pat z (dots_at (lo (input lm s'))) p0 ∷ [])) (span_same w k k s p1 s' p1' sh p1h) ∙ (ap (λ (z : ℕ). (xs ++ rest_pat (spanned m (lo (input m s)) p1) (dots_at z) p0 ∷ [])) (lo_same w k s s' sh))) (after_item_told k right_brace_kind (refl, refl, refl, refl) true (xs ++ rest_pat (spanned lm (lo (input lm s')) p1') (dots_at (lo (input lm s'))) p0 ∷ []) p1 p1' p1h)))) (told_then w k _ _ _ _ (pattern_prop_told k c ce s s' sh) (λ p0 p1 p1' p1h. after_item_told k right_brace_kind (refl, refl, refl, refl) false (xs ++ p0 ∷ []) p1 p1' p1h)))
 
   pub object_pat_by_told : (k : Ceiling) (c : Code) (ce : c.context.module_ ≡ modular) (s : State S) (s' : State Input) (sj : Joined m Live k s s') → Told m Live k (object_pat_by lm il c s') (object_pat_by m im c s)
   unfolding object_pat_by
@@ -113,7 +113,7 @@ module _ {S : Type 0} {m : Stream S} {Live : S → Type 0} {modular : Bool} (w :
   unfolding block_step
   block_step_told k c ce ss s s' sh = told_at w k right_brace_kind (refl, refl, refl, refl) s s' sh _ _ _ _ (λ j1. told_ok w k _ _ (past m s) (past lm s') j1.after refl) (told_then w k _ _ _ _ (told.stmt k (in_list c) ce s s' sh) (λ t0 t1 t1' t1h. told_ok w k _ _ t1 t1' t1h refl))
 
-  pub block_rest_told : (k : Ceiling) (c : Code) (ce : c.context.module_ ≡ modular) (startc : Ceiling) (start : State S) (start' : State Input) (starth : Beside m Live startc start start') (s : State S) (s' : State Input) (sh : Beside m Live k s s') → Told m Live k (block_rest lm il c start' s') (block_rest m im c start s)
+  pub block_rest_told : (k : Ceiling) (c : Code) (ce : c.context.module_ ≡ modular) (startc : Ceiling) (start : State S) (start' : State Input) (starth : Beside m Live startc start start') (s : State S) (s' : State Input) (sh : Beside m Live k s s') → Told m Live k (block_rest lm il c (lo (input lm start')) s') (block_rest m im c (lo (input m start)) s)
   unfolding block_rest
   block_rest_told k c ce startc start start' starth s s' sh = told_then w k _ _ _ _ (told_iterate w _ _ (λ k2 x1 sx sx' sxh. block_step_told k2 c ce x1 sx sx' sxh) k [] s s' sh) (λ ss0 ss1 ss1' ss1h. told_ok w k _ _ ss1 ss1' ss1h (ap (λ (z : Span). block_stmt z (pack ss0)) (span_same w startc k start ss1 start' ss1' starth ss1h)))
 
@@ -152,19 +152,19 @@ module _ {S : Type 0} {m : Stream S} {Live : S → Type 0} {modular : Bool} (w :
 
   pub variables_by_told : (k : Ceiling) (c : Code) (ce : c.context.module_ ≡ modular) (s : State S) (s' : State Input) (sj : Joined m Live k s s') → Told m Live k (variables_by lm il c s') (variables_by m im c s)
   unfolding variables_by
-  variables_by_told k c ce s s' sj = told_own w k c s s' sj _ _ (told_then w k _ _ _ _ (declarators_by_told k c ce (past m s) (past lm s') sj.after) (λ ds0 ds1 ds1' ds1h. told_end w k c _ _ refl ds1 ds1' ds1h _ _ (λ e1 e1' e1h. told_ok w k _ _ e1 e1' e1h (ap (λ (z : Span). var_decl z (kind (input lm s')) (pack ds0)) (span_same w k k s e1 s' e1' sj.base e1h) ∙ (ap (λ (z : ℕ). var_decl (spanned m s e1) z (pack ds0)) (kind_as w k s s' sj))))))
+  variables_by_told k c ce s s' sj = told_own w k c s s' sj _ _ (told_then w k _ _ _ _ (declarators_by_told k c ce (past m s) (past lm s') sj.after) (λ ds0 ds1 ds1' ds1h. told_end w k c _ _ refl ds1 ds1' ds1h _ _ (λ e1 e1' e1h. told_ok w k _ _ e1 e1' e1h (ap (λ (z : Span). var_decl z (kind (input lm s')) (pack ds0)) (span_same w k k s e1 s' e1' sj.base e1h) ∙ (ap (λ (z : ℕ). var_decl (spanned m (lo (input m s)) e1) z (pack ds0)) (kind_as w k s s' sj))))))
 
-  pub using_by_told : (k : Ceiling) (c : Code) (ce : c.context.module_ ≡ modular) (startc : Ceiling) (start : State S) (start' : State Input) (starth : Beside m Live startc start start') (awaits : Bool) (s : State S) (s' : State Input) (sh : Beside m Live k s s') → Told m Live k (using_by lm il c start' awaits s') (using_by m im c start awaits s)
+  pub using_by_told : (k : Ceiling) (c : Code) (ce : c.context.module_ ≡ modular) (startc : Ceiling) (start : State S) (start' : State Input) (starth : Beside m Live startc start start') (awaits : Bool) (s : State S) (s' : State Input) (sh : Beside m Live k s s') → Told m Live k (using_by lm il c (lo (input lm start')) awaits s') (using_by m im c (lo (input m start)) awaits s)
   unfolding using_by
   using_by_told k c ce startc start start' starth awaits s s' sh = told_word w k c using_kind (refl, refl, refl, refl) s s' sh _ _ (λ j1. told_then w k _ _ _ _ (declarators_by_told k c ce (past m s) (past lm s') j1.after) (λ ds0 ds1 ds1' ds1h. told_end w k c _ _ refl ds1 ds1' ds1h _ _ (λ e1 e1' e1h. told_ok w k _ _ e1 e1' e1h (ap (λ (z : Span). using_decl z awaits (pack ds0)) (span_same w startc k start e1 start' e1' starth e1h)))))
 
-  pub function_decl_by_told : (k : Ceiling) (c : Code) (ce : c.context.module_ ≡ modular) (startc : Ceiling) (start : State S) (start' : State Input) (starth : Beside m Live startc start start') (async : Bool) (s : State S) (s' : State Input) (sh : Beside m Live k s s') → Told m Live k (function_decl_by lm il c start' async s') (function_decl_by m im c start async s)
+  pub function_decl_by_told : (k : Ceiling) (c : Code) (ce : c.context.module_ ≡ modular) (startc : Ceiling) (start : State S) (start' : State Input) (starth : Beside m Live startc start start') (async : Bool) (s : State S) (s' : State Input) (sh : Beside m Live k s s') → Told m Live k (function_decl_by lm il c (lo (input lm start')) async s') (function_decl_by m im c (lo (input m start)) async s)
   unfolding function_decl_by
-  function_decl_by_told k c ce startc start start' starth async s s' sh = told_word w k c function_kind (refl, refl, refl, refl) s s' sh _ _ (λ j1. told_then w k _ _ _ _ (star_told w told k (past m s) (past lm s') j1.after) (λ g0 g1 g1' g1h. told_name w k c g1 g1' g1h _ _ (λ n0 j2. told_then w k _ _ _ _ (subst (λ (z : ℕ). Told m Live k (function_by lm il c (lo (input lm start')) g0 async (past lm g1')) (function_by m im c z g0 async (past m g1))) (ap (λ (z : ℕ). z) (lo_same w startc start start' starth)) (function_by_told w told k c ce (lo (input lm start')) g0 async (past m g1) (past lm g1') j2.after)) (λ f0 f1 f1' f1h. told_ok w k _ _ f1 f1' f1h (ap (λ (z : Span). fn_decl z (ident (first lm il g1') n0) f0) (span_same w startc k start f1 start' f1' starth f1h) ∙ (ap (λ (z : Span). fn_decl (spanned m start f1) (ident z n0) f0) (first_same w k g1 g1' j2)))))))
+  function_decl_by_told k c ce startc start start' starth async s s' sh = told_word w k c function_kind (refl, refl, refl, refl) s s' sh _ _ (λ j1. told_then w k _ _ _ _ (star_told w told k (past m s) (past lm s') j1.after) (λ g0 g1 g1' g1h. told_name w k c g1 g1' g1h _ _ (λ n0 j2. told_then w k _ _ _ _ (subst (λ (z : ℕ). Told m Live k (function_by lm il c (lo (input lm start')) g0 async (past lm g1')) (function_by m im c z g0 async (past m g1))) (ap (λ (z : ℕ). z) (lo_same w startc start start' starth)) (function_by_told w told k c ce (lo (input lm start')) g0 async (past m g1) (past lm g1') j2.after)) (λ f0 f1 f1' f1h. told_ok w k _ _ f1 f1' f1h (ap (λ (z : Span). fn_decl z (ident (first lm il g1') n0) f0) (span_same w startc k start f1 start' f1' starth f1h) ∙ (ap (λ (z : Span). fn_decl (spanned m (lo (input m start)) f1) (ident z n0) f0) (first_same w k g1 g1' j2)))))))
 
   pub class_decl_by_told : (k : Ceiling) (c : Code) (ce : c.context.module_ ≡ modular) (s : State S) (s' : State Input) (sh : Beside m Live k s s') → Told m Live k (class_decl_by lm il c s') (class_decl_by m im c s)
   unfolding class_decl_by
-  class_decl_by_told k c ce s s' sh = told_word w k c class_kind (refl, refl, refl, refl) s s' sh _ _ (λ j1. told_name w k (turned_strict c) (past m s) (past lm s') j1.after _ _ (λ n0 j2. told_then w k _ _ _ _ (subst (λ (z : ℕ). Told m Live k (il.class_tail (turned_strict (with_in c)) (lo (input lm s')) (past lm (past lm s'))) (im.class_tail (turned_strict (with_in c)) z (past m (past m s)))) (ap (λ (z : ℕ). z) (lo_same w k s s' sh)) (told.class_tail k (turned_strict (with_in c)) ce (lo (input lm s')) (past m (past m s)) (past lm (past lm s')) j2.after)) (λ k0 k1 k1' k1h. told_ok w k _ _ k1 k1' k1h (ap (λ (z : Span). class_decl z (ident (first lm il (past lm s')) n0) k0) (span_same w k k s k1 s' k1' sh k1h) ∙ (ap (λ (z : Span). class_decl (spanned m s k1) (ident z n0) k0) (first_same w k (past m s) (past lm s') j2))))))
+  class_decl_by_told k c ce s s' sh = told_word w k c class_kind (refl, refl, refl, refl) s s' sh _ _ (λ j1. told_name w k (turned_strict c) (past m s) (past lm s') j1.after _ _ (λ n0 j2. told_then w k _ _ _ _ (subst (λ (z : ℕ). Told m Live k (il.class_tail (turned_strict (with_in c)) (lo (input lm s')) (past lm (past lm s'))) (im.class_tail (turned_strict (with_in c)) z (past m (past m s)))) (ap (λ (z : ℕ). z) (lo_same w k s s' sh)) (told.class_tail k (turned_strict (with_in c)) ce (lo (input lm s')) (past m (past m s)) (past lm (past lm s')) j2.after)) (λ k0 k1 k1' k1h. told_ok w k _ _ k1 k1' k1h (ap (λ (z : Span). class_decl z (ident (first lm il (past lm s')) n0) k0) (span_same w k k s k1 s' k1' sh k1h) ∙ (ap (λ (z : Span). class_decl (spanned m (lo (input m s)) k1) (ident z n0) k0) (first_same w k (past m s) (past lm s') j2))))))
 
   pub field_value_told : (k : Ceiling) (c : Code) (ce : c.context.module_ ≡ modular) (e : ℕ) (s : State S) (s' : State Input) (sh : Beside m Live k s s') → Told m Live k (field_value lm il c e s') (field_value m im c e s)
   unfolding field_value
@@ -174,34 +174,34 @@ module _ {S : Type 0} {m : Stream S} {Live : S → Type 0} {modular : Bool} (w :
   unfolding class_key
   class_key_told k c ce s s' sh = told_at w k hash_kind (refl, refl, refl, refl) s s' sh _ _ _ _ (λ j1. private_by_told w told k s s' sh) (key_by_told w told k c ce s s' sh)
 
-  pub class_method_by_told : (k : Ceiling) (c : Code) (ce : c.context.module_ ≡ modular) (startc : Ceiling) (start : State S) (start' : State Input) (starth : Beside m Live startc start start') (is_static : Bool) (generator : Bool) (async : Bool) (key : Tree) (s : State S) (s' : State Input) (sh : Beside m Live k s s') → Told m Live k (class_method_by lm il c start' is_static generator async key s') (class_method_by m im c start is_static generator async key s)
+  pub class_method_by_told : (k : Ceiling) (c : Code) (ce : c.context.module_ ≡ modular) (startc : Ceiling) (start : State S) (start' : State Input) (starth : Beside m Live startc start start') (is_static : Bool) (generator : Bool) (async : Bool) (key : Tree) (s : State S) (s' : State Input) (sh : Beside m Live k s s') → Told m Live k (class_method_by lm il c (lo (input lm start')) is_static generator async key s') (class_method_by m im c (lo (input m start)) is_static generator async key s)
   unfolding class_method_by
   class_method_by_told k c ce startc start start' starth is_static generator async key s s' sh = told_then w k _ _ _ _ (subst (λ (z : ℕ). Told m Live k (function_by lm il c (lo (input lm start')) generator async s') (function_by m im c z generator async s)) (lo_same w startc start start' starth) (function_by_told w told k c ce (lo (input lm start')) generator async s s' sh))
       (λ f0 f1 f1' f1h. told_if w k (constructs key && (not is_static && (not generator && not async))) (constructs key && (not is_static && (not generator && not async))) refl _ _ _ _
-      (λ _. told_ok w k _ _ f1 f1' f1h (ap (λ (z : Span). constructor_of lm il z key f0) (span_same w startc k start f1 start' f1' starth f1h) ∙ same_constructor m im il (spanned m start f1) key f0))
+      (λ _. told_ok w k _ _ f1 f1' f1h (ap (λ (z : Span). constructor_of lm il z key f0) (span_same w startc k start f1 start' f1' starth f1h) ∙ same_constructor m im il (spanned m (lo (input m start)) f1) key f0))
       (λ _. told_ok w k _ _ f1 f1' f1h (ap (λ (z : Span). method_tree m im z key f0 plain_method is_static) (span_same w startc k start f1 start' f1' starth f1h))))
 
-  pub class_getter_told : (k : Ceiling) (c : Code) (ce : c.context.module_ ≡ modular) (startc : Ceiling) (start : State S) (start' : State Input) (starth : Beside m Live startc start start') (is_static : Bool) (s : State S) (s' : State Input) (sj : Joined m Live k s s') → Told m Live k (class_getter lm il c start' is_static s') (class_getter m im c start is_static s)
+  pub class_getter_told : (k : Ceiling) (c : Code) (ce : c.context.module_ ≡ modular) (startc : Ceiling) (start : State S) (start' : State Input) (starth : Beside m Live startc start start') (is_static : Bool) (s : State S) (s' : State Input) (sj : Joined m Live k s s') → Told m Live k (class_getter lm il c (lo (input lm start')) is_static s') (class_getter m im c (lo (input m start)) is_static s)
   unfolding class_getter
   class_getter_told k c ce startc start start' starth is_static s s' sj = told_then w k _ _ _ _ (class_key_told k c ce (past m s) (past lm s') sj.after) (λ k0 k1 k1' k1h. told_eat w k left_paren_kind (refl, refl, refl, refl) k1 k1' k1h _ _ (λ j1. told_eat w k right_paren_kind (refl, refl, refl, refl) (past m k1) (past lm k1') j1.after _ _ (λ j2. told_then w k _ _ _ _ (told.body k (in_body false false c) ce (past m (past m k1)) (past lm (past lm k1')) j2.after) (λ b0 b1 b1' b1h. told_ok w k _ _ b1 b1' b1h (ap (λ (z : Span). method_tree m im z k0 (function z none none b0 false false) get_kind is_static) (span_same w startc k start b1 start' b1' starth b1h))))))
 
-  pub class_setter_told : (k : Ceiling) (c : Code) (ce : c.context.module_ ≡ modular) (startc : Ceiling) (start : State S) (start' : State Input) (starth : Beside m Live startc start start') (is_static : Bool) (s : State S) (s' : State Input) (sj : Joined m Live k s s') → Told m Live k (class_setter lm il c start' is_static s') (class_setter m im c start is_static s)
+  pub class_setter_told : (k : Ceiling) (c : Code) (ce : c.context.module_ ≡ modular) (startc : Ceiling) (start : State S) (start' : State Input) (starth : Beside m Live startc start start') (is_static : Bool) (s : State S) (s' : State Input) (sj : Joined m Live k s s') → Told m Live k (class_setter lm il c (lo (input lm start')) is_static s') (class_setter m im c (lo (input m start)) is_static s)
   unfolding class_setter
   class_setter_told k c ce startc start start' starth is_static s s' sj = told_then w k _ _ _ _ (class_key_told k c ce (past m s) (past lm s') sj.after) (λ k0 k1 k1' k1h. told_then w k _ _ _ _ (setter_parameter_told w told k (in_body false false c) ce k1 k1' k1h) (λ p0 p1 p1' p1h. told_then w k _ _ _ _ (told.body k (in_body false false c) ce p1 p1' p1h) (λ b0 b1 b1' b1h. told_ok w k _ _ b1 b1' b1h (ap (λ (z : Span). method_tree m im z k0 (function z (more p0 none) none b0 false false) set_kind is_static) (span_same w startc k start b1 start' b1' starth b1h)))))
 
-  pub accessor_by_told : (k : Ceiling) (c : Code) (ce : c.context.module_ ≡ modular) (startc : Ceiling) (start : State S) (start' : State Input) (starth : Beside m Live startc start start') (is_static : Bool) (s : State S) (s' : State Input) (sj : Joined m Live k s s') → Told m Live k (accessor_by lm il c start' is_static s') (accessor_by m im c start is_static s)
+  pub accessor_by_told : (k : Ceiling) (c : Code) (ce : c.context.module_ ≡ modular) (startc : Ceiling) (start : State S) (start' : State Input) (starth : Beside m Live startc start start') (is_static : Bool) (s : State S) (s' : State Input) (sj : Joined m Live k s s') → Told m Live k (accessor_by lm il c (lo (input lm start')) is_static s') (accessor_by m im c (lo (input m start)) is_static s)
   unfolding accessor_by
   accessor_by_told k c ce startc start start' starth is_static s s' sj = told_then w k _ _ _ _ (class_key_told k c ce (past m s) (past lm s') sj.after) (λ k0 k1 k1' k1h. told_then w k _ _ _ _ (field_value_told k c ce key_end k1 k1' k1h) (λ v0 v1 v1' v1h. told_ok w k _ _ v1 v1' v1h (ap (λ (z : Span). auto_accessor z k0 v0 is_static none) (span_same w startc k start v1 start' v1' starth v1h))))
 
-  pub field_or_method_told : (k : Ceiling) (c : Code) (ce : c.context.module_ ≡ modular) (startc : Ceiling) (start : State S) (start' : State Input) (starth : Beside m Live startc start start') (is_static : Bool) (s : State S) (s' : State Input) (sh : Beside m Live k s s') → Told m Live k (field_or_method lm il c start' is_static s') (field_or_method m im c start is_static s)
+  pub field_or_method_told : (k : Ceiling) (c : Code) (ce : c.context.module_ ≡ modular) (startc : Ceiling) (start : State S) (start' : State Input) (starth : Beside m Live startc start start') (is_static : Bool) (s : State S) (s' : State Input) (sh : Beside m Live k s s') → Told m Live k (field_or_method lm il c (lo (input lm start')) is_static s') (field_or_method m im c (lo (input m start)) is_static s)
   unfolding field_or_method
   field_or_method_told k c ce startc start start' starth is_static s s' sh = told_then w k _ _ _ _ (class_key_told k c ce s s' sh) (λ k0 k1 k1' k1h. told_at w k left_paren_kind (refl, refl, refl, refl) k1 k1' k1h _ _ _ _ (λ j1. class_method_by_told k c ce startc start start' starth is_static false false k0 k1 k1' k1h) (told_then w k _ _ _ _ (subst (λ (z : ℕ). Told m Live k (field_value lm il c (field_end is_static (kind (input lm s'))) k1') (field_value m im c z k1)) (ap (λ (z : ℕ). z) (agree1 w (λ z. field_end is_static (kind_of z)) (λ p q l v. refl) (λ p q l v. refl) (λ p l v. refl) k s s' sh)) (field_value_told k c ce (field_end is_static (kind (input lm s'))) k1 k1' k1h)) (λ v0 v1 v1' v1h. told_if w k (is_private k0) (is_private k0) refl _ _ _ _ (λ _. told_ok w k _ _ v1 v1' v1h (ap (λ (z : Span). private_prop z k0 v0 is_static none) (span_same w startc k start v1 start' v1' starth v1h))) (λ _. told_ok w k _ _ v1 v1' v1h (ap (λ (z : Span). class_prop z k0 v0 is_static none) (span_same w startc k start v1 start' v1' starth v1h))))))
 
-  pub generator_member_told : (k : Ceiling) (c : Code) (ce : c.context.module_ ≡ modular) (startc : Ceiling) (start : State S) (start' : State Input) (starth : Beside m Live startc start start') (is_static : Bool) (async : Bool) (s : State S) (s' : State Input) (sh : Beside m Live k s s') → Told m Live k (generator_member lm il c start' is_static async s') (generator_member m im c start is_static async s)
+  pub generator_member_told : (k : Ceiling) (c : Code) (ce : c.context.module_ ≡ modular) (startc : Ceiling) (start : State S) (start' : State Input) (starth : Beside m Live startc start start') (is_static : Bool) (async : Bool) (s : State S) (s' : State Input) (sh : Beside m Live k s s') → Told m Live k (generator_member lm il c (lo (input lm start')) is_static async s') (generator_member m im c (lo (input m start)) is_static async s)
   unfolding generator_member
   generator_member_told k c ce startc start start' starth is_static async s s' sh = told_then w k _ _ _ _ (star_told w told k s s' sh) (λ g0 g1 g1' g1h. told_then w k _ _ _ _ (class_key_told k c ce g1 g1' g1h) (λ k0 k1 k1' k1h. class_method_by_told k c ce startc start start' starth is_static g0 async k0 k1 k1' k1h))
 
-  pub member_rest_told : (k : Ceiling) (c : Code) (ce : c.context.module_ ≡ modular) (startc : Ceiling) (start : State S) (start' : State Input) (starth : Beside m Live startc start start') (is_static : Bool) (s : State S) (s' : State Input) (sh : Beside m Live k s s') → Told m Live k (member_rest lm il c start' is_static s') (member_rest m im c start is_static s)
+  pub member_rest_told : (k : Ceiling) (c : Code) (ce : c.context.module_ ≡ modular) (startc : Ceiling) (start : State S) (start' : State Input) (starth : Beside m Live startc start start') (is_static : Bool) (s : State S) (s' : State Input) (sh : Beside m Live k s s') → Told m Live k (member_rest lm il c (lo (input lm start')) is_static s') (member_rest m im c (lo (input m start)) is_static s)
   unfolding member_rest
   member_rest_told k c ce startc start start' starth is_static s s' sh = told_at w k mul_kind (refl, refl, refl, refl) s s' sh _ _ _ _ (λ j1. generator_member_told k c ce startc start start' starth is_static false s s' sh) (told_if w k _ _ (agree2 w (λ z. is_async_head lm il (on [] 0 z)) (λ p q l v. refl) (λ p q l v. refl) (λ n p q l v. refl) (λ n p q l v. refl) (λ n p l v. refl) k s s' sh) _ _ _ _ (λ y2. generator_member_told k c ce startc start start' starth is_static true (past m s) (past lm s') (joined_at w async_kind (refl, refl, refl, refl) k s s' sh (and_first _ _ y2)).after) (λ _. told_if w k _ _ (agree2 w (λ z. at lm get_kind (on [] 0 z) && starts_key (kind2 (input lm (on [] 0 z)))) (λ p q l v. refl) (λ p q l v. refl) (λ n p q l v. refl) (λ n p q l v. refl) (λ n p l v. refl) k s s' sh) _ _ _ _ (λ y3. class_getter_told k c ce startc start start' starth is_static s s' (joined_at w get_kind (refl, refl, refl, refl) k s s' sh (and_first (at lm get_kind s') (starts_key (kind2 (input lm s'))) y3))) (λ _. told_if w k _ _ (agree2 w (λ z. at lm set_kind (on [] 0 z) && starts_key (kind2 (input lm (on [] 0 z)))) (λ p q l v. refl) (λ p q l v. refl) (λ n p q l v. refl) (λ n p q l v. refl) (λ n p l v. refl) k s s' sh) _ _ _ _ (λ y4. class_setter_told k c ce startc start start' starth is_static s s' (joined_at w set_kind (refl, refl, refl, refl) k s s' sh (and_first (at lm set_kind s') (starts_key (kind2 (input lm s'))) y4))) (λ _. told_if w k _ _ (agree2 w (λ z. c.syntax.auto_accessors && (at lm accessor_kind (on [] 0 z) && (starts_key (kind2 (input lm (on [] 0 z))) && not (brk2 (input lm (on [] 0 z)))))) (λ p q l v. refl) (λ p q l v. refl) (λ n p q l v. refl) (λ n p q l v. refl) (λ n p l v. refl) k s s' sh) _ _ _ _ (λ y5. accessor_by_told k c ce startc start start' starth is_static s s' (joined_at w accessor_kind (refl, refl, refl, refl) k s s' sh (and_first (at lm accessor_kind s') ((starts_key (kind2 (input lm s')) && not (brk2 (input lm s')))) (and_second (c.syntax.auto_accessors) ((at lm accessor_kind s' && (starts_key (kind2 (input lm s')) && not (brk2 (input lm s'))))) y5)))) (λ _. field_or_method_told k c ce startc start start' starth is_static s s' sh)))))
 
@@ -253,7 +253,7 @@ module _ {S : Type 0} {m : Stream S} {Live : S → Type 0} {modular : Bool} (w :
 
   pub if_step_told : (k : Ceiling) (x : Chain) (xe : x.code.context.module_ ≡ modular) (s : State S) (s' : State Input) (sh : Beside m Live k s s') → Told m Live k (if_step lm il x s') (if_step m im x s)
   unfolding if_step
-  if_step_told k x xe s s' sh = told_word w k x.code if_kind (refl, refl, refl, refl) s s' sh _ _ (λ j1. told_then w k _ _ _ _ (in_parens_told k x.code xe (past m s) (past lm s') j1.after) (λ e0 e1 e1' e1h. told_then w k _ _ _ _ (sub_by_told k x.code xe true e1 e1' e1h) (λ a0 a1 a1' a1h. told_at w k else_kind (refl, refl, refl, refl) a1 a1' a1h _ _ _ _ (λ j2. told_word w k x.code else_kind (refl, refl, refl, refl) a1 a1' a1h _ _ (λ j3. subst (λ (z : Chain). Told m Live k (else_by lm il (branched lm il s' x e0 a0) (past lm a1')) (else_by m im z (past m a1))) (ap (λ (z : Chain). z) (ap (λ (z : ℕ). record { branches = x.branches ++ record { start = z; test = e0; consequent = a0 } ∷ []; code = x.code; last = absent }) (lo_same w k s s' sh))) (else_by_told k (branched lm il s' x e0 a0) xe (past m a1) (past lm a1') j3.after))) (told_ok w k _ _ a1 a1' a1h (ap (λ (z : Chain). finished z) (ap (λ (z : ℕ). record { branches = x.branches ++ record { start = z; test = e0; consequent = a0 } ∷ []; code = x.code; last = absent }) (lo_same w k s s' sh)))))))
+  if_step_told k x xe s s' sh = told_word w k x.code if_kind (refl, refl, refl, refl) s s' sh _ _ (λ j1. told_then w k _ _ _ _ (in_parens_told k x.code xe (past m s) (past lm s') j1.after) (λ e0 e1 e1' e1h. told_then w k _ _ _ _ (sub_by_told k x.code xe true e1 e1' e1h) (λ a0 a1 a1' a1h. told_at w k else_kind (refl, refl, refl, refl) a1 a1' a1h _ _ _ _ (λ j2. told_word w k x.code else_kind (refl, refl, refl, refl) a1 a1' a1h _ _ (λ j3. subst (λ (z : Chain). Told m Live k (else_by lm il (branched lm il (lo (input lm s')) x e0 a0) (past lm a1')) (else_by m im z (past m a1))) (ap (λ (z : Chain). z) (ap (λ (z : ℕ). record { branches = x.branches ++ record { start = z; test = e0; consequent = a0 } ∷ []; code = x.code; last = absent }) (lo_same w k s s' sh))) (else_by_told k (branched lm il (lo (input lm s')) x e0 a0) xe (past m a1) (past lm a1') j3.after))) (told_ok w k _ _ a1 a1' a1h (ap (λ (z : Chain). finished z) (ap (λ (z : ℕ). record { branches = x.branches ++ record { start = z; test = e0; consequent = a0 } ∷ []; code = x.code; last = absent }) (lo_same w k s s' sh)))))))
 
   else_by_keeps : (x : Chain) (r : State Input) → x.code.context.module_ ≡ modular → Keeps (λ (z : Chain). z.code.context.module_ ≡ modular) (else_by lm il x r)
   unfolding else_by
@@ -261,7 +261,7 @@ module _ {S : Type 0} {m : Stream S} {Live : S → Type 0} {modular : Bool} (w :
 
   if_step_keeps : (x : Chain) (r : State Input) → x.code.context.module_ ≡ modular → Keeps (λ (z : Chain). z.code.context.module_ ≡ modular) (if_step lm il x r)
   unfolding if_step eat_word
-  if_step_keeps x r e = keeps_word x.code.context if_kind r _ (λ o. keeps_then (in_parens lm il x.code o) _ (λ i. keeps_then (sub_by lm il x.code true i.1) _ (λ a. keeps_if (at lm else_kind a.1) _ _ (keeps_word x.code.context else_kind a.1 _ (λ q. else_by_keeps (branched lm il r x i.0 a.0) q e)) (record { so = tt }))))
+  if_step_keeps x r e = keeps_word x.code.context if_kind r _ (λ o. keeps_then (in_parens lm il x.code o) _ (λ i. keeps_then (sub_by lm il x.code true i.1) _ (λ a. keeps_if (at lm else_kind a.1) _ _ (keeps_word x.code.context else_kind a.1 _ (λ q. else_by_keeps (branched lm il (lo (input lm r)) x i.0 a.0) q e)) (record { so = tt }))))
     where
       keeps_word : (c : Context) (j : ℕ) (r : State Input) (f : State Input → Result (Step Chain × State Input) Fault) → ((q : State Input) → Keeps (λ (z : Chain). z.code.context.module_ ≡ modular) (f q)) → Keeps (λ (z : Chain). z.code.context.module_ ≡ modular) ((if at lm j r && not (barred c (input lm r)) then Ok (past lm r) else unexpected lm r) >>= f)
       keeps_word c j r f h = by_test (at lm j r && not (barred c (input lm r)))
@@ -298,7 +298,7 @@ module _ {S : Type 0} {m : Stream S} {Live : S → Type 0} {modular : Bool} (w :
   unfolding case_step
   case_step_told k c ce ss s s' sh = told_if w k _ _ (agree1 w (λ z. at lm case_kind (on [] 0 z) || (at lm default_kind (on [] 0 z) || at lm right_brace_kind (on [] 0 z))) (λ p q l v. refl) (λ p q l v. refl) (λ p l v. refl) k s s' sh) _ _ _ _ (λ y1. told_ok w k _ _ s s' sh refl) (λ _. told_then w k _ _ _ _ (told.stmt k (in_list c) ce s s' sh) (λ t0 t1 t1' t1h. told_ok w k _ _ t1 t1' t1h refl))
 
-  pub case_rest_told : (k : Ceiling) (c : Code) (ce : c.context.module_ ≡ modular) (startc : Ceiling) (start : State S) (start' : State Input) (starth : Beside m Live startc start start') (e : Tree) (s : State S) (s' : State Input) (sh : Beside m Live k s s') → Told m Live k (case_rest lm il c start' e s') (case_rest m im c start e s)
+  pub case_rest_told : (k : Ceiling) (c : Code) (ce : c.context.module_ ≡ modular) (startc : Ceiling) (start : State S) (start' : State Input) (starth : Beside m Live startc start start') (e : Tree) (s : State S) (s' : State Input) (sh : Beside m Live k s s') → Told m Live k (case_rest lm il c (lo (input lm start')) e s') (case_rest m im c (lo (input m start)) e s)
   unfolding case_rest
   case_rest_told k c ce startc start start' starth e s s' sh = told_eat w k colon_kind (refl, refl, refl, refl) s s' sh _ _ (λ j1. told_then w k _ _ _ _ (told_iterate w _ _ (λ k2 x2 sx sx' sxh. case_step_told k2 c ce x2 sx sx' sxh) k [] (past m s) (past lm s') j1.after) (λ ss0 ss1 ss1' ss1h. told_ok w k _ _ ss1 ss1' ss1h (ap (λ (z : Span). switch_case z e (pack ss0)) (span_same w startc k start ss1 start' ss1' starth ss1h))))
 
@@ -318,7 +318,7 @@ module _ {S : Type 0} {m : Stream S} {Live : S → Type 0} {modular : Bool} (w :
   unfolding catch_by
   catch_by_told k c ce s s' sh = told_word w k c catch_kind (refl, refl, refl, refl) s s' sh _ _ (λ j1. told_at w k left_paren_kind (refl, refl, refl, refl) (past m s) (past lm s') j1.after _ _ _ _ (λ j2. told_then w k _ _ _ _ (told.pat k c ce (past m (past m s)) (past lm (past lm s')) j2.after) (λ p0 p1 p1' p1h. told_eat w k right_paren_kind (refl, refl, refl, refl) p1 p1' p1h _ _ (λ j3. told_then w k _ _ _ _ (block_by_told k c ce (past m p1) (past lm p1') j3.after) (λ b0 b1 b1' b1h. told_ok w k _ _ b1 b1' b1h (ap (λ (z : Span). catch_clause z p0 b0) (span_same w k k s b1 s' b1' sh b1h)))))) (told_then w k _ _ _ _ (block_by_told k c ce (past m s) (past lm s') j1.after) (λ b0 b1 b1' b1h. told_ok w k _ _ b1 b1' b1h (ap (λ (z : Span). catch_clause z absent b0) (span_same w k k s b1 s' b1' sh b1h)))))
 
-  pub finally_by_told : (k : Ceiling) (c : Code) (ce : c.context.module_ ≡ modular) (startc : Ceiling) (start : State S) (start' : State Input) (starth : Beside m Live startc start start') (b : Tree) (h : Tree) (s : State S) (s' : State Input) (sh : Beside m Live k s s') → Told m Live k (finally_by lm il c start' b h s') (finally_by m im c start b h s)
+  pub finally_by_told : (k : Ceiling) (c : Code) (ce : c.context.module_ ≡ modular) (startc : Ceiling) (start : State S) (start' : State Input) (starth : Beside m Live startc start start') (b : Tree) (h : Tree) (s : State S) (s' : State Input) (sh : Beside m Live k s s') → Told m Live k (finally_by lm il c (lo (input lm start')) b h s') (finally_by m im c (lo (input m start)) b h s)
   unfolding finally_by
   finally_by_told k c ce startc start start' starth b h s s' sh = told_if w k _ _ (agree1 w (λ z. at lm finally_kind (on [] 0 z) && not (barred c.context (input lm (on [] 0 z)))) (λ p q l v. refl) (λ p q l v. refl) (λ p l v. refl) k s s' sh) _ _ _ _ (λ _. told_word w k c finally_kind (refl, refl, refl, refl) s s' sh _ _ (λ j2. told_then w k _ _ _ _ (block_by_told k c ce (past m s) (past lm s') j2.after) (λ f0 f1 f1' f1h. told_ok w k _ _ f1 f1' f1h (ap (λ (z : Span). try_stmt z b h f0) (span_same w startc k start f1 start' f1' starth f1h))))) (λ _. told_if w k (is_absent h) (is_absent h) refl _ _ _ _ (λ _. never w k _ _) (λ _. told_ok w k _ _ s s' sh (ap (λ (z : Span). try_stmt z b h absent) (span_same w startc k start s start' s' starth sh))))
 
@@ -330,43 +330,43 @@ module _ {S : Type 0} {m : Stream S} {Live : S → Type 0} {modular : Bool} (w :
   unfolding clause_by
   clause_by_told k c ce close shut s s' sh = told_at w k close shut s s' sh _ _ _ _ (λ j1. told_ok w k _ _ (past m s) (past lm s') j1.after refl) (told_then w k _ _ _ _ (told.expr k c ce expression_level s s' sh) (λ e0 e1 e1' e1h. told_eat w k close shut e1 e1' e1h _ _ (λ j2. told_ok w k _ _ (past m e1) (past lm e1') j2.after refl)))
 
-  pub for_rest_told : (k : Ceiling) (c : Code) (ce : c.context.module_ ≡ modular) (startc : Ceiling) (start : State S) (start' : State Input) (starth : Beside m Live startc start start') (i : Tree) (s : State S) (s' : State Input) (sh : Beside m Live k s s') → Told m Live k (for_rest lm il c start' i s') (for_rest m im c start i s)
+  pub for_rest_told : (k : Ceiling) (c : Code) (ce : c.context.module_ ≡ modular) (startc : Ceiling) (start : State S) (start' : State Input) (starth : Beside m Live startc start start') (i : Tree) (s : State S) (s' : State Input) (sh : Beside m Live k s s') → Told m Live k (for_rest lm il c (lo (input lm start')) i s') (for_rest m im c (lo (input m start)) i s)
   unfolding for_rest
   for_rest_told k c ce startc start start' starth i s s' sh = told_eat w k semicolon_kind (refl, refl, refl, refl) s s' sh _ _ (λ j1. told_then w k _ _ _ _ (clause_by_told k c ce semicolon_kind (refl, refl, refl, refl) (past m s) (past lm s') j1.after) (λ t0 t1 t1' t1h. told_then w k _ _ _ _ (clause_by_told k c ce right_paren_kind (refl, refl, refl, refl) t1 t1' t1h) (λ u0 u1 u1' u1h. told_then w k _ _ _ _ (sub_by_told k c ce false u1 u1' u1h) (λ b0 b1 b1' b1h. told_ok w k _ _ b1 b1' b1h (ap (λ (z : Span). for_stmt z i t0 u0 b0) (span_same w startc k start b1 start' b1' starth b1h))))))
 
-  pub over_rest_told : (k : Ceiling) (c : Code) (ce : c.context.module_ ≡ modular) (l : ℕ) (make : (Span → Tree → Tree → Tree)) (startc : Ceiling) (start : State S) (start' : State Input) (starth : Beside m Live startc start start') (s : State S) (s' : State Input) (sh : Beside m Live k s s') → Told m Live k (over_rest lm il c l make start' s') (over_rest m im c l make start s)
+  pub over_rest_told : (k : Ceiling) (c : Code) (ce : c.context.module_ ≡ modular) (l : ℕ) (make : (Span → Tree → Tree → Tree)) (startc : Ceiling) (start : State S) (start' : State Input) (starth : Beside m Live startc start start') (s : State S) (s' : State Input) (sh : Beside m Live k s s') → Told m Live k (over_rest lm il c l make (lo (input lm start')) s') (over_rest m im c l make (lo (input m start)) s)
   unfolding over_rest
   over_rest_told k c ce l make startc start start' starth s s' sh = told_then w k _ _ _ _ (told.expr k c ce l s s' sh) (λ e0 e1 e1' e1h. told_eat w k right_paren_kind (refl, refl, refl, refl) e1 e1' e1h _ _ (λ j1. told_then w k _ _ _ _ (sub_by_told k c ce false (past m e1) (past lm e1') j1.after) (λ b0 b1 b1' b1h. told_ok w k _ _ b1 b1' b1h (ap (λ (z : Span). make z e0 b0) (span_same w startc k start b1 start' b1' starth b1h)))))
 
-  pub in_rest_told : (k : Ceiling) (c : Code) (ce : c.context.module_ ≡ modular) (startc : Ceiling) (start : State S) (start' : State Input) (starth : Beside m Live startc start start') (l : Tree) (s : State S) (s' : State Input) (sh : Beside m Live k s s') → Told m Live k (in_rest lm il c start' l s') (in_rest m im c start l s)
+  pub in_rest_told : (k : Ceiling) (c : Code) (ce : c.context.module_ ≡ modular) (startc : Ceiling) (start : State S) (start' : State Input) (starth : Beside m Live startc start start') (l : Tree) (s : State S) (s' : State Input) (sh : Beside m Live k s s') → Told m Live k (in_rest lm il c (lo (input lm start')) l s') (in_rest m im c (lo (input m start)) l s)
   unfolding in_rest
   in_rest_told k c ce startc start start' starth l s s' sh = told_word w k c in_kind (refl, refl, refl, refl) s s' sh _ _ (λ j1. over_rest_told k c ce expression_level (λ p e b. for_in_stmt p l e b) startc start start' starth (past m s) (past lm s') j1.after)
 
-  pub of_rest_told : (k : Ceiling) (c : Code) (ce : c.context.module_ ≡ modular) (startc : Ceiling) (start : State S) (start' : State Input) (starth : Beside m Live startc start start') (awaits : Bool) (l : Tree) (s : State S) (s' : State Input) (sh : Beside m Live k s s') → Told m Live k (of_rest lm il c start' awaits l s') (of_rest m im c start awaits l s)
+  pub of_rest_told : (k : Ceiling) (c : Code) (ce : c.context.module_ ≡ modular) (startc : Ceiling) (start : State S) (start' : State Input) (starth : Beside m Live startc start start') (awaits : Bool) (l : Tree) (s : State S) (s' : State Input) (sh : Beside m Live k s s') → Told m Live k (of_rest lm il c (lo (input lm start')) awaits l s') (of_rest m im c (lo (input m start)) awaits l s)
   unfolding of_rest
   of_rest_told k c ce startc start start' starth awaits l s s' sh = told_word w k c of_kind (refl, refl, refl, refl) s s' sh _ _ (λ j1. over_rest_told k c ce assignment_level (λ p e b. for_of_stmt p awaits l e b) startc start start' starth (past m s) (past lm s') j1.after)
 
-  pub head_rest_told : (k : Ceiling) (c : Code) (ce : c.context.module_ ≡ modular) (startc : Ceiling) (start : State S) (start' : State Input) (starth : Beside m Live startc start start') (awaits : Bool) (ds : List Tree) (l : Tree) (s : State S) (s' : State Input) (sh : Beside m Live k s s') → Told m Live k (head_rest lm il c start' awaits ds l s') (head_rest m im c start awaits ds l s)
+  pub head_rest_told : (k : Ceiling) (c : Code) (ce : c.context.module_ ≡ modular) (startc : Ceiling) (start : State S) (start' : State Input) (starth : Beside m Live startc start start') (awaits : Bool) (ds : List Tree) (l : Tree) (s : State S) (s' : State Input) (sh : Beside m Live k s s') → Told m Live k (head_rest lm il c (lo (input lm start')) awaits ds l s') (head_rest m im c (lo (input m start)) awaits ds l s)
   unfolding head_rest
   head_rest_told k c ce startc start start' starth awaits ds l s s' sh = told_at w k of_kind (refl, refl, refl, refl) s s' sh _ _ _ _ (λ j1. told_if w k (one_bare lm il ds) (one_bare m im ds) (same_bare m im il ds) _ _ _ _ (λ _. of_rest_told k c ce startc start start' starth awaits l s s' sh) (λ _. never w k _ _)) (told_if w k (awaits) (awaits) refl _ _ _ _ (λ _. never w k _ _) (λ _. told_at w k in_kind (refl, refl, refl, refl) s s' sh _ _ _ _ (λ j2. told_if w k (one_bare lm il ds) (one_bare m im ds) (same_bare m im il ds) _ _ _ _ (λ _. in_rest_told k c ce startc start start' starth l s s' sh) (λ _. never w k _ _)) (for_rest_told k c ce startc start start' starth l s s' sh)))
 
-  pub for_variables_told : (k : Ceiling) (c : Code) (ce : c.context.module_ ≡ modular) (startc : Ceiling) (start : State S) (start' : State Input) (starth : Beside m Live startc start start') (awaits : Bool) (s : State S) (s' : State Input) (sj : Joined m Live k s s') → Told m Live k (for_variables lm il c start' awaits s') (for_variables m im c start awaits s)
+  pub for_variables_told : (k : Ceiling) (c : Code) (ce : c.context.module_ ≡ modular) (startc : Ceiling) (start : State S) (start' : State Input) (starth : Beside m Live startc start start') (awaits : Bool) (s : State S) (s' : State Input) (sj : Joined m Live k s s') → Told m Live k (for_variables lm il c (lo (input lm start')) awaits s') (for_variables m im c (lo (input m start)) awaits s)
   unfolding for_variables
-  for_variables_told k c ce startc start start' starth awaits s s' sj = told_own w k c s s' sj _ _ (told_then w k _ _ _ _ (declarators_by_told k (without_in c) ce (past m s) (past lm s') sj.after) (λ ds0 ds1 ds1' ds1h. subst (λ (z : Tree). Told m Live k (head_rest lm il c start' awaits ds0 (var_decl (spanned lm s' ds1') (kind (input lm s')) (pack ds0)) ds1') (head_rest m im c start awaits ds0 z ds1)) (ap (λ (z : Span). (var_decl z (kind (input lm s')) (pack ds0))) (span_same w k k s ds1 s' ds1' sj.base ds1h) ∙ (ap (λ (z : ℕ). (var_decl (spanned m s ds1) z (pack ds0))) (kind_as w k s s' sj))) (head_rest_told k c ce startc start start' starth awaits ds0 (var_decl (spanned lm s' ds1') (kind (input lm s')) (pack ds0)) ds1 ds1' ds1h)))
+  for_variables_told k c ce startc start start' starth awaits s s' sj = told_own w k c s s' sj _ _ (told_then w k _ _ _ _ (declarators_by_told k (without_in c) ce (past m s) (past lm s') sj.after) (λ ds0 ds1 ds1' ds1h. subst (λ (z : Tree). Told m Live k (head_rest lm il c (lo (input lm start')) awaits ds0 (var_decl (spanned lm (lo (input lm s')) ds1') (kind (input lm s')) (pack ds0)) ds1') (head_rest m im c (lo (input m start)) awaits ds0 z ds1)) (ap (λ (z : Span). (var_decl z (kind (input lm s')) (pack ds0))) (span_same w k k s ds1 s' ds1' sj.base ds1h) ∙ (ap (λ (z : ℕ). (var_decl (spanned m (lo (input m s)) ds1) z (pack ds0))) (kind_as w k s s' sj))) (head_rest_told k c ce startc start start' starth awaits ds0 (var_decl (spanned lm (lo (input lm s')) ds1') (kind (input lm s')) (pack ds0)) ds1 ds1' ds1h)))
 
-  pub for_using_told : (k : Ceiling) (c : Code) (ce : c.context.module_ ≡ modular) (startc : Ceiling) (start : State S) (start' : State Input) (starth : Beside m Live startc start start') (awaits : Bool) (ownc : Ceiling) (own : State S) (own' : State Input) (ownh : Beside m Live ownc own own') (waits : Bool) (s : State S) (s' : State Input) (sh : Beside m Live k s s') → Told m Live k (for_using lm il c start' awaits own' waits s') (for_using m im c start awaits own waits s)
+  pub for_using_told : (k : Ceiling) (c : Code) (ce : c.context.module_ ≡ modular) (startc : Ceiling) (start : State S) (start' : State Input) (starth : Beside m Live startc start start') (awaits : Bool) (ownc : Ceiling) (own : State S) (own' : State Input) (ownh : Beside m Live ownc own own') (waits : Bool) (s : State S) (s' : State Input) (sh : Beside m Live k s s') → Told m Live k (for_using lm il c (lo (input lm start')) awaits (lo (input lm own')) waits s') (for_using m im c (lo (input m start)) awaits (lo (input m own)) waits s)
   unfolding for_using
-  for_using_told k c ce startc start start' starth awaits ownc own own' ownh waits s s' sh = told_word w k c using_kind (refl, refl, refl, refl) s s' sh _ _ (λ j1. told_then w k _ _ _ _ (declarators_by_told k (without_in c) ce (past m s) (past lm s') j1.after) (λ ds0 ds1 ds1' ds1h. subst (λ (z : Tree). Told m Live k (head_rest lm il c start' awaits ds0 (using_decl (spanned lm own' ds1') waits (pack ds0)) ds1') (head_rest m im c start awaits ds0 z ds1)) (ap (λ (z : Span). (using_decl z waits (pack ds0))) (span_same w ownc k own ds1 own' ds1' ownh ds1h)) (head_rest_told k c ce startc start start' starth awaits ds0 (using_decl (spanned lm own' ds1') waits (pack ds0)) ds1 ds1' ds1h)))
+  for_using_told k c ce startc start start' starth awaits ownc own own' ownh waits s s' sh = told_word w k c using_kind (refl, refl, refl, refl) s s' sh _ _ (λ j1. told_then w k _ _ _ _ (declarators_by_told k (without_in c) ce (past m s) (past lm s') j1.after) (λ ds0 ds1 ds1' ds1h. subst (λ (z : Tree). Told m Live k (head_rest lm il c (lo (input lm start')) awaits ds0 (using_decl (spanned lm (lo (input lm own')) ds1') waits (pack ds0)) ds1') (head_rest m im c (lo (input m start)) awaits ds0 z ds1)) (ap (λ (z : Span). (using_decl z waits (pack ds0))) (span_same w ownc k own ds1 own' ds1' ownh ds1h)) (head_rest_told k c ce startc start start' starth awaits ds0 (using_decl (spanned lm (lo (input lm own')) ds1') waits (pack ds0)) ds1 ds1' ds1h)))
 
-  pub for_expression_rest_told : (k : Ceiling) (c : Code) (ce : c.context.module_ ≡ modular) (startc : Ceiling) (start : State S) (start' : State Input) (starth : Beside m Live startc start start') (awaits : Bool) (ownc : Ceiling) (own : State S) (own' : State Input) (ownh : Beside m Live ownc own own') (e : Tree) (s : State S) (s' : State Input) (sh : Beside m Live k s s') → Told m Live k (for_expression_rest lm il c start' awaits own' e s') (for_expression_rest m im c start awaits own e s)
+  pub for_expression_rest_told : (k : Ceiling) (c : Code) (ce : c.context.module_ ≡ modular) (startc : Ceiling) (start : State S) (start' : State Input) (starth : Beside m Live startc start start') (awaits : Bool) (ownc : Ceiling) (own : State S) (own' : State Input) (ownh : Beside m Live ownc own own') (e : Tree) (s : State S) (s' : State Input) (sh : Beside m Live k s s') → Told m Live k (for_expression_rest lm il c (lo (input lm start')) awaits own' e s') (for_expression_rest m im c (lo (input m start)) awaits own e s)
   unfolding for_expression_rest
   for_expression_rest_told k c ce startc start start' starth awaits ownc own own' ownh e s s' sh = told_at w k of_kind (refl, refl, refl, refl) s s' sh _ _ _ _ (λ j1. told_if w k _ _ (agree2 w (λ z. at lm let_kind (on [] 0 z) || (not awaits && (at lm async_kind (on [] 0 z) && (kind2 (input lm (on [] 0 z)) == of_kind)))) (λ p q l v. refl) (λ p q l v. refl) (λ n p q l v. refl) (λ n p q l v. refl) (λ n p l v. refl) ownc own own' ownh) _ _ _ _ (λ y2. never w k _ _) (λ _. told_pure w _ _ k _ _ (ap (λ (z : List ℕ). to_head z e) (sym sh.commas)) _ _ (λ l. of_rest_told k c ce startc start start' starth awaits l s s' sh))) (told_if w k (awaits) (awaits) refl _ _ _ _ (λ _. never w k _ _) (λ _. told_at w k in_kind (refl, refl, refl, refl) s s' sh _ _ _ _ (λ j3. told_pure w _ _ k _ _ (ap (λ (z : List ℕ). to_head z e) (sym sh.commas)) _ _ (λ l. in_rest_told k c ce startc start start' starth l s s' sh)) (for_rest_told k c ce startc start start' starth e s s' sh)))
 
-  pub for_expression_told : (k : Ceiling) (c : Code) (ce : c.context.module_ ≡ modular) (startc : Ceiling) (start : State S) (start' : State Input) (starth : Beside m Live startc start start') (awaits : Bool) (s : State S) (s' : State Input) (sh : Beside m Live k s s') → Told m Live k (for_expression lm il c start' awaits s') (for_expression m im c start awaits s)
+  pub for_expression_told : (k : Ceiling) (c : Code) (ce : c.context.module_ ≡ modular) (startc : Ceiling) (start : State S) (start' : State Input) (starth : Beside m Live startc start start') (awaits : Bool) (s : State S) (s' : State Input) (sh : Beside m Live k s s') → Told m Live k (for_expression lm il c (lo (input lm start')) awaits s') (for_expression m im c (lo (input m start)) awaits s)
   unfolding for_expression
   for_expression_told k c ce startc start start' starth awaits s s' sh = told_if w k _ _ (agree2 w (λ z. at lm let_kind (on [] 0 z) && (kind2 (input lm (on [] 0 z)) == left_bracket_kind)) (λ p q l v. refl) (λ p q l v. refl) (λ n p q l v. refl) (λ n p q l v. refl) (λ n p l v. refl) k s s' sh) _ _ _ _ (λ y1. never w k _ _) (λ _. told_then w k _ _ _ _ (told.expr k (without_in c) ce expression_level s s' sh) (λ e0 e1 e1' e1h. for_expression_rest_told k c ce startc start start' starth awaits k s s' sh e0 e1 e1' e1h))
 
-  pub for_head_told : (k : Ceiling) (c : Code) (ce : c.context.module_ ≡ modular) (startc : Ceiling) (start : State S) (start' : State Input) (starth : Beside m Live startc start start') (awaits : Bool) (s : State S) (s' : State Input) (sh : Beside m Live k s s') → Told m Live k (for_head lm il c start' awaits s') (for_head m im c start awaits s)
+  pub for_head_told : (k : Ceiling) (c : Code) (ce : c.context.module_ ≡ modular) (startc : Ceiling) (start : State S) (start' : State Input) (starth : Beside m Live startc start start') (awaits : Bool) (s : State S) (s' : State Input) (sh : Beside m Live k s s') → Told m Live k (for_head lm il c (lo (input lm start')) awaits s') (for_head m im c (lo (input m start)) awaits s)
   unfolding for_head
   for_head_told k c ce startc start start' starth awaits s s' sh = told_at w k semicolon_kind (refl, refl, refl, refl) s s' sh _ _ _ _ (λ j1. told_if w k (awaits) (awaits) refl _ _ _ _ (λ _. never w k _ _) (λ _. for_rest_told k c ce startc start start' starth absent s s' sh)) (told_if w k _ _ (agree2 w (λ z. at lm var_kind (on [] 0 z) || (at lm const_kind (on [] 0 z) || starts_let lm il (on [] 0 z))) (λ p q l v. refl) (λ p q l v. refl) (λ n p q l v. refl) (λ n p q l v. refl) (λ n p l v. refl) k s s' sh) _ _ _ _ (λ y2. for_variables_told k c ce startc start start' starth awaits s s' (head_joined k s s' sh y2)) (λ _. told_if w k _ _ (using_of_same k c s s' sh) _ _ _ _ (λ y3. for_using_told k c ce startc start start' starth awaits k s s' sh false s s' sh) (λ _. told_if w k _ _ (await_of_same k c s s' sh) _ _ _ _ (λ y4. for_using_told k c ce startc start start' starth awaits k s s' sh true (past m s) (past lm s') (await_using_joined k c s s' sh (and_first (starts_await_using lm il c s') (not (kind2 (rest (input lm s')) == of_kind)) y4)).after) (λ _. for_expression_told k c ce startc start start' starth awaits s s' sh))))
 
@@ -374,7 +374,7 @@ module _ {S : Type 0} {m : Stream S} {Live : S → Type 0} {modular : Bool} (w :
   unfolding for_by
   for_by_told k c ce s s' sh = told_word w k c for_kind (refl, refl, refl, refl) s s' sh _ _ (λ j1. told_at w k await_kind (refl, refl, refl, refl) (past m s) (past lm s') j1.after _ _ _ _ (λ j2. told_if w k (c.context.in_async) (c.context.in_async) refl _ _ _ _ (λ _. told_word w k c await_kind (refl, refl, refl, refl) (past m s) (past lm s') j1.after _ _ (λ j3. told_eat w k left_paren_kind (refl, refl, refl, refl) (past m (past m s)) (past lm (past lm s')) j3.after _ _ (λ j4. for_head_told k c ce k s s' sh true (past m (past m (past m s))) (past lm (past lm (past lm s'))) j4.after))) (λ _. never w k _ _)) (told_eat w k left_paren_kind (refl, refl, refl, refl) (past m s) (past lm s') j1.after _ _ (λ j5. for_head_told k c ce k s s' sh false (past m (past m s)) (past lm (past lm s')) j5.after)))
 
-  pub labelled_by_told : (k : Ceiling) (c : Code) (ce : c.context.module_ ≡ modular) (startc : Ceiling) (start : State S) (start' : State Input) (starth : Beside m Live startc start start') (l : Tree) (s : State S) (s' : State Input) (sj : Joined m Live k s s') → Told m Live k (labelled_by lm il c start' l s') (labelled_by m im c start l s)
+  pub labelled_by_told : (k : Ceiling) (c : Code) (ce : c.context.module_ ≡ modular) (startc : Ceiling) (start : State S) (start' : State Input) (starth : Beside m Live startc start start') (l : Tree) (s : State S) (s' : State Input) (sj : Joined m Live k s s') → Told m Live k (labelled_by lm il c (lo (input lm start')) l s') (labelled_by m im c (lo (input m start)) l s)
   unfolding labelled_by
   labelled_by_told k c ce startc start start' starth l s s' sj = told_then w k _ _ _ _ (sub_by_told k c ce true (past m s) (past lm s') sj.after) (λ b0 b1 b1' b1h. told_ok w k _ _ b1 b1' b1h (ap (λ (z : Span). labeled_stmt z l b0) (span_same w startc k start b1 start' b1' starth b1h)))
 

@@ -1,5 +1,5 @@
-//! Laws of the grammar: reading from a source of tokens is reading from the list that it hands out, and what is read of a source is read of a list that
-//! it hands out. The functions here are laws alone.
+//! Laws of the grammar: reading from a source of tokens is reading from the list that it hands out, and what is read of a source
+//! is read of a list that it hands out. The functions here are laws alone.
 #![tactic(auto)]
 
 ghost use Rattle.grammar_spec.specs.Reader.Source.{Stream};

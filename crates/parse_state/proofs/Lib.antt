@@ -1,4 +1,4 @@
-pub mod Marks
 pub mod Iterate
-mod Same
+pub mod Firsts
 pub mod Thirds
+pub mod Taking

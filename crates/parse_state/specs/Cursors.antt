@@ -1,8 +1,9 @@
 -- Where a parser stands in a source of tokens, and how reading goes on from there: the stream of the reading functions over any source.
 use Rattle.std.specs.Prelude.{ℕ, zero, suc, ◌+◌, Bool, true, false, not, ◌&&◌, ◌||◌, ◌==◌, if◌then◌else◌, List, [], ◌∷◌, length, Option, None, Some, option_map}
 use Rattle.base_token.specs.declared.context.Context.{Context}
-use Rattle.base_token.specs.Kinds.{end_kind, div_kind, div_assign_kind, regex_kind, error_kind}
+use Rattle.base_token.specs.Kinds.{div_kind, div_assign_kind, regex_kind, error_kind}
 use Rattle.base_token.specs.Tokens.{Spot}
+use Rattle.lex_source.specs.Ahead.{break_in, lo_in}
 use Rattle.lex_source.specs.Machine as tokens
 use Rattle.lex_source.specs.Machine.{Source}
 use Rattle.lex_source.specs.Settings.{with_ctx, with_next_regexp}
@@ -32,11 +33,6 @@ places m n None behind = []
 places m n (Some t) None = place_of t ∷ []
 places m zero (Some t) (Some s) = place_of t ∷ []
 places m (suc n) (Some t) (Some s) = place_of t ∷ places m n (m.step s).0 (Some (m.step s).1)
-
--- the kind of the token that comes
-abbrev pub kind_in : Option Spot → ℕ
-kind_in None = end_kind
-kind_in (Some t) = t.token.kind
 
 -- ---- going on
 
@@ -69,6 +65,10 @@ same_break false b = not b
 abbrev pub in_place : Spot → Option Spot → Bool
 in_place t None = false
 in_place t (Some u) = ((u.token.kind == regex_kind) || (u.token.kind == error_kind)) && ((u.lo == t.lo) && same_break u.line_break t.line_break)
+
+-- whether a token that is read again from there on comes in the place of the one that waits
+abbrev pub comes : Option Spot → Spot → Bool
+comes o u = ((u.token.kind == regex_kind) || (u.token.kind == error_kind)) && ((u.lo == lo_in u.lo o) && same_break u.line_break (break_in o))
 
 -- what the source hands out where this slash is asked for again
 abbrev pub again_in : {S : Type 0} → tokens.Machine S → Spot → Source S → Option Spot

@@ -2,19 +2,15 @@
 //! reading function on the stream of the source.
 #![tactic(auto)]
 
-pub mod ahead;
 pub mod code;
 pub mod failure;
-pub mod kind_numbers;
-pub mod kinds;
 pub mod operators;
 pub mod parser;
 pub mod semicolons;
 pub mod steps;
 pub mod words;
 
-pub use ahead::Ahead;
 pub use code::Around;
 pub use failure::Failure;
-pub use lex_source::{Look, Tokens};
+pub use lex_source::{Ahead, Look, Tokens, kind_numbers, kinds};
 pub use parser::Parser;

@@ -7,15 +7,11 @@ ghost use Rattle.grammar_spec.specs.Reader.Expressions.{literal};
 ghost use Rattle.parse_state.specs.Answers.{IsMemory, IsSyntax};
 ghost use Rattle.parse_state.specs.Cursors.{stream_of};
 
-use crate::ahead::Ahead;
 use crate::failure::Failure;
-use crate::kind_numbers::token_number;
-use crate::kinds;
 use base_token::{BytePos, Error, Span, SyntaxError, Token, TokenAndSpan};
-use lex_source::{Look, Tokens};
-use std::alloc::Global;
-use std::convert::AsStr;
-use std::mem;
+use lex_source::kind_numbers::token_number;
+use lex_source::{Ahead, Look, Tokens, kinds};
+use std::alloc::{AllocError, Global};
 
 /// A source of tokens that is read, one token ahead.
 #[derive(Drop)]
@@ -40,54 +36,45 @@ impl<'a, I: Tokens<'a> + Drop> Parser<'a, I> {
 
     /// Whether the token that comes has this kind.
     #[inline]
-    #[tactic(auto, unfolding(crate::specs::Cursors::stream_of))]
+    #[tactic(auto, using(crate::proofs::Firsts::firsts), unfolding(crate::specs::Cursors::stream_of))]
     pub fn at(&self, kind: u8) -> bool
         ensures { result ≡ spec.at (stream_of I.machine) kind (state_of I.state self.now) }
     {
-        self.ahead.kind == kind
+        self.ahead.kind() == kind
     }
 
     /// The kind of the token that comes.
     #[inline]
-    #[tactic(auto, unfolding(crate::specs::Cursors::stream_of))]
+    #[tactic(auto, using(crate::proofs::Firsts::firsts), unfolding(crate::specs::Cursors::stream_of))]
     pub fn kind(&self) -> u8
         ensures { result ≡ kind (at_hand I.machine I.state self.now) }
     {
-        self.ahead.kind
+        self.ahead.kind()
     }
 
     /// Whether a line break stands before the token that comes.
     #[inline]
-    #[tactic(auto, unfolding(crate::specs::Cursors::stream_of))]
+    #[tactic(auto, using(crate::proofs::Firsts::firsts), unfolding(crate::specs::Cursors::stream_of))]
     pub fn breaks(&self) -> bool
         ensures { result ≡ brk (at_hand I.machine I.state self.now) }
     {
-        match &self.ahead.token {
-            Some(token) => token.had_line_break,
-            None => false,
-        }
+        self.ahead.breaks()
     }
 
     /// Where the token that comes begins; at the end, where the last one ended.
-    #[tactic(auto, unfolding(crate::specs::Cursors::stream_of))]
+    #[tactic(auto, using(crate::proofs::Firsts::firsts), unfolding(crate::specs::Cursors::stream_of))]
     pub fn lo(&self) -> BytePos
         ensures { result.0 ≡ lo (at_hand I.machine I.state self.now) }
     {
-        match &self.ahead.token {
-            Some(token) => token.span.lo,
-            None => self.last,
-        }
+        self.ahead.lo(self.last)
     }
 
     /// Where the token that comes ends.
-    #[tactic(auto, unfolding(crate::specs::Cursors::stream_of))]
+    #[tactic(auto, using(crate::proofs::Firsts::firsts), unfolding(crate::specs::Cursors::stream_of))]
     pub fn hi(&self) -> BytePos
         ensures { result.0 ≡ hi (at_hand I.machine I.state self.now) }
     {
-        match &self.ahead.token {
-            Some(token) => token.span.hi,
-            None => self.last,
-        }
+        self.ahead.hi(self.last)
     }
 
     /// The place of the token that comes.
@@ -116,7 +103,30 @@ impl<'a, I: Tokens<'a> + Drop> Parser<'a, I> {
     /// # Errors
     ///
     /// Want of memory.
-    #[tactic(auto, unfolding(crate::specs::Cursors::stream_of))]
+    #[inline(never)]
+    #[tactic(auto, using(crate::proofs::Taking::takes), unfolding(crate::specs::Cursors::stream_of))]
+    fn advance(&mut self) -> Result<(), AllocError>
+        ensures value { OnOk result (state_of I.state self.new
+            ≡ spec.past (stream_of I.machine) (state_of I.state self.old)) }
+        ensures shorter { OnOk result (kind (at_hand I.machine I.state self.old) ≢ 0
+            → to_come I.machine I.state self.new < to_come I.machine I.state self.old) }
+        ensures not_longer { OnOk result (to_come I.machine I.state self.new ≤ to_come I.machine I.state self.old) }
+    {
+        if self.ahead.is_none() {
+            return Ok(());
+        }
+        let end = self.ahead.hi(self.last);
+        self.input.next_into(&mut self.ahead)?;
+        self.last = end;
+        Ok(())
+    }
+
+    /// Takes the token that comes. At the end nothing changes.
+    ///
+    /// # Errors
+    ///
+    /// Want of memory.
+    #[inline]
     pub fn bump(&mut self) -> Result<(), Failure>
         ensures value { OnOk result (state_of I.state self.new
             ≡ spec.past (stream_of I.machine) (state_of I.state self.old)) }
@@ -125,16 +135,8 @@ impl<'a, I: Tokens<'a> + Drop> Parser<'a, I> {
         ensures not_longer { NotLonger I.machine I.state self.old self.new result }
         ensures full { IfErr result IsMemory }
     {
-        let Some(token) = &self.ahead.token else {
-            return Ok(());
-        };
-        let end = token.span.hi;
-        match self.input.next() {
-            Ok(next) => {
-                self.ahead.put(next);
-                self.last = end;
-                Ok(())
-            }
+        match self.advance() {
+            Ok(()) => Ok(()),
             Err(_) => Err(Failure::Memory),
         }
     }
@@ -144,7 +146,7 @@ impl<'a, I: Tokens<'a> + Drop> Parser<'a, I> {
     /// # Errors
     ///
     /// Want of memory.
-    #[tactic(auto, unfolding(crate::specs::Cursors::stream_of))]
+    #[tactic(auto, using(crate::proofs::Taking::takes), unfolding(crate::specs::Cursors::stream_of))]
     pub fn take(&mut self) -> Result<Option<TokenAndSpan<'a>>, Failure>
         ensures token { IfOk result (λ t. option_map shown_spot t ≡ (state_of I.state self.old).source.first) }
         ensures value { OnOk result (state_of I.state self.new
@@ -154,15 +156,14 @@ impl<'a, I: Tokens<'a> + Drop> Parser<'a, I> {
         ensures not_longer { NotLonger I.machine I.state self.old self.new result }
         ensures full { IfErr result IsMemory }
     {
-        let Some(token) = &self.ahead.token else {
+        let end = self.ahead.hi(self.last);
+        let Some(token) = self.ahead.take() else {
             return Ok(None);
         };
-        let end = token.span.hi;
-        match self.input.next() {
-            Ok(next) => {
-                let taken = mem::replace(&mut self.ahead, Ahead::new(next));
+        match self.input.next_into(&mut self.ahead) {
+            Ok(()) => {
                 self.last = end;
-                Ok(taken.token)
+                Ok(Some(token))
             }
             Err(_) => Err(Failure::Memory),
         }
@@ -173,7 +174,7 @@ impl<'a, I: Tokens<'a> + Drop> Parser<'a, I> {
     /// # Errors
     ///
     /// Want of memory.
-    #[tactic(auto, unfolding(crate::specs::Cursors::stream_of))]
+    #[tactic(auto, using(crate::proofs::Thirds::seconds), unfolding(crate::specs::Cursors::stream_of))]
     pub fn second(&self) -> Result<(u8, bool), Failure>
         ensures kind { IfOk result (λ x. kind (at_hand I.machine I.state self.now) ≢ 0 → x.0
             ≡ kind2 (at_hand I.machine I.state self.now)) }
@@ -193,7 +194,7 @@ impl<'a, I: Tokens<'a> + Drop> Parser<'a, I> {
     /// # Errors
     ///
     /// Want of memory.
-    #[tactic(auto, using(crate::proofs::Thirds::thirds), unfolding(crate::specs::Cursors::stream_of))]
+    #[tactic(auto, using(crate::proofs::Thirds::thirds, crate::proofs::Taking::ends_and_thirds), unfolding(crate::specs::Cursors::stream_of))]
     pub fn third(&self) -> Result<(u8, bool), Failure>
         ensures kind { IfOk result (λ x. x.0 ≡ kind2
             (spec.input (stream_of I.machine)
@@ -204,7 +205,7 @@ impl<'a, I: Tokens<'a> + Drop> Parser<'a, I> {
         ensures rest { IfOk result (λ x. x.0 ≡ kind2 (rest (at_hand I.machine I.state self.now))) }
         ensures full { IfErr result IsMemory }
     {
-        if self.ahead.token.is_none() {
+        if self.ahead.is_none() {
             return Ok((kinds::END, false));
         }
         match self.input.look(Look::Second) {
@@ -215,21 +216,15 @@ impl<'a, I: Tokens<'a> + Drop> Parser<'a, I> {
     }
 
     /// The text of the word that comes, or nothing.
-    #[tactic(auto, unfolding(crate::specs::Cursors::stream_of))]
+    #[tactic(auto, using(crate::proofs::Firsts::firsts), unfolding(crate::specs::Cursors::stream_of))]
     pub fn text(&self) -> &str
         ensures { result.now ≡ text (at_hand I.machine I.state self.now) }
     {
-        match &self.ahead.token {
-            Some(token) => match &token.token {
-                Token::Word(word) => word.as_str(),
-                _ => "",
-            },
-            None => "",
-        }
+        self.ahead.text()
     }
 
     /// Whether the token that comes is a literal: a string, a number or a regular expression.
-    #[tactic(auto, unfolding(crate::specs::Cursors::stream_of))]
+    #[tactic(auto, using(crate::proofs::Firsts::firsts, crate::proofs::Firsts::no_literal, crate::proofs::Firsts::literal_of), unfolding(crate::specs::Cursors::stream_of))]
     pub fn is_literal(&self) -> bool
         ensures some { result ≡ true → literal (kind (at_hand I.machine I.state self.now))
             (content (at_hand I.machine I.state self.now))
@@ -238,8 +233,8 @@ impl<'a, I: Tokens<'a> + Drop> Parser<'a, I> {
             (content (at_hand I.machine I.state self.now))
             (first_span (at_hand I.machine I.state self.now)) ≡ None }
     {
-        match &self.ahead.token {
-            Some(token) => match &token.token {
+        match self.ahead.token() {
+            Some(token) => match token {
                 Token::Str { .. } | Token::Num { .. } | Token::BigInt { .. } | Token::Regex(_, _) =>
                     true,
                 _ => false,
@@ -272,23 +267,31 @@ impl<'a, I: Tokens<'a> + Drop> Parser<'a, I> {
         Ok(false)
     }
 
+    /// What is wrong with the token that comes, where the grammar has no place for it, without where.
+    fn fault(&self) -> SyntaxError {
+        if let Some(Token::Error(error)) = self.ahead.token() {
+            return error.into_kind();
+        }
+        if self.ahead.is_none() {
+            SyntaxError::Eof
+        } else if self.follows_await() {
+            SyntaxError::TopLevelAwaitInScript
+        } else if self.is_word() {
+            self.unexpected_word()
+        } else if self.at(kinds::ARROW) {
+            SyntaxError::ArrowNotAllowed
+        } else {
+            SyntaxError::Unexpected
+        }
+    }
+
     /// What is wrong with the token that comes, where the grammar has no place for it.
     pub fn unexpected(&self) -> Failure
         ensures { IsSyntax result }
     {
-        let kind = match &self.ahead.token {
-            Some(token) => match &token.token {
-                Token::Error(error) => error.into_kind(),
-                _ if self.follows_await() => SyntaxError::TopLevelAwaitInScript,
-                Token::Word(_) => self.unexpected_word(),
-                Token::Arrow => SyntaxError::ArrowNotAllowed,
-                _ => SyntaxError::Unexpected,
-            },
-            None => SyntaxError::Eof,
-        };
         Failure::Syntax(Error {
             span: self.place(),
-            kind,
+            kind: self.fault(),
         })
     }
 
@@ -297,7 +300,7 @@ impl<'a, I: Tokens<'a> + Drop> Parser<'a, I> {
     pub fn unexpected_end(&self) -> Failure
         ensures { IsSyntax result }
     {
-        if self.ahead.kind < kinds::ASSIGN || self.ahead.kind > kinds::NULLISH_ASSIGN {
+        if self.kind() < kinds::ASSIGN || self.kind() > kinds::NULLISH_ASSIGN {
             return self.unexpected();
         }
         Failure::Syntax(Error {
@@ -350,19 +353,14 @@ impl<'a, I: Tokens<'a> + Drop> Parser<'a, I> {
     }
 
     /// Whether the token that comes is a word that is spelled with an escape: its span is longer than its text.
-    #[tactic(auto, unfolding(crate::specs::Cursors::stream_of))]
+    #[tactic(auto, using(crate::proofs::Firsts::no_escape), unfolding(crate::specs::Cursors::stream_of))]
     pub fn is_escaped(&self) -> bool
         ensures { result ≡ escaped (at_hand I.machine I.state self.now) }
     {
-        match &self.ahead.token {
-            Some(token) => match &token.token {
-                Token::Word(word) => {
-                    let end = u64::from(token.span.lo.0) + word.as_str().len() as u64;
-                    end != u64::from(token.span.hi.0)
-                }
-                _ => false,
-            },
-            None => false,
+        if !self.is_word() {
+            return false;
         }
+        let end = u64::from(self.lo().0) + self.text().len() as u64;
+        end != u64::from(self.hi().0)
     }
 }

@@ -1,31 +1,30 @@
 //! Words and names, and the slash that is read again.
-ghost use Rattle.std.specs.Prelude.{◌≡◌, ◌<◌, ◌≤◌, false, true, Some, IfErr, IfOk, MatchOption, OnOk};
+ghost use Rattle.std.specs.Prelude.{◌≡◌, ◌<◌, ◌≤◌, false, true, Some, IfErr, IfOk, IfSome, MatchOption, OnOk};
 ghost use Rattle.grammar_spec.specs.Tokens.Input.{barred, kind};
+ghost use Rattle.lex_source.specs.Ahead.{kind_in};
 ghost use Rattle.lex_source.specs.Machine.{shown_spot};
 ghost use Rattle.grammar_spec.specs.Reader.Source as spec;
 ghost use Rattle.parse_state.specs.Answers.{IsMemory};
 ghost use Rattle.parse_state.specs.Codes.{code_of};
-ghost use Rattle.parse_state.specs.Cursors.{again_in, in_place, is_slash, kind_in, stream_of};
+ghost use Rattle.parse_state.specs.Cursors.{again_in, comes, in_place, is_slash, stream_of};
 
-use crate::ahead::Ahead;
 use crate::code::Around;
 use crate::failure::Failure;
-use crate::kind_numbers::token_number;
-use crate::kinds;
 use crate::parser::Parser;
 use crate::words::{no_name, starts_operand, strict_reserved};
 use base_token::{Atom, Context, SyntaxError, TokenAndSpan};
-use lex_source::{Look, Tokens};
+use lex_source::kind_numbers::token_number;
+use lex_source::{Ahead, Look, Tokens, kinds};
 
 /// Whether a token that was read again from a slash on comes in its place: a regular expression, or a fault of one, that
 /// begins there, with the same line-break flag.
-fn in_place(slash: &TokenAndSpan<'_>, token: &TokenAndSpan<'_>) -> bool
-    ensures { result ≡ in_place (shown_spot slash.now) (Some (shown_spot token.now)) }
+fn comes(slash: &Ahead<'_>, token: &TokenAndSpan<'_>) -> bool
+    ensures { result ≡ comes slash.now (shown_spot token.now) }
 {
     let kind = token_number(&token.token);
     (kind == kinds::REGEX || kind == kinds::ERROR)
-        && token.span.lo.0 == slash.span.lo.0
-        && token.had_line_break == slash.had_line_break
+        && token.span.lo.0 == slash.lo(token.span.lo).0
+        && token.had_line_break == slash.breaks()
 }
 
 impl<'a, I: Tokens<'a> + Drop> Parser<'a, I> {
@@ -43,7 +42,7 @@ impl<'a, I: Tokens<'a> + Drop> Parser<'a, I> {
     /// Whether the token that comes follows the name `await`, and could be its operand.
     pub fn follows_await(&self) -> bool {
         match self.awaited {
-            Some(end) => end.0 == self.last.0 && starts_operand(self.ahead.kind),
+            Some(end) => end.0 == self.last.0 && starts_operand(self.kind()),
             None => false,
         }
     }
@@ -133,17 +132,18 @@ impl<'a, I: Tokens<'a> + Drop> Parser<'a, I> {
     /// # Errors
     ///
     /// Want of memory.
-    fn again(&self, slash: &TokenAndSpan<'a>) -> Result<Option<u8>, Failure>
-        ensures value { IfOk result (λ x. MatchOption x
-            (in_place (shown_spot slash.now)
-            (again_in I.machine (shown_spot slash.now) (I.state self.now.input)) ≡ false)
-            (λ k. (in_place (shown_spot slash.now)
-            (again_in I.machine (shown_spot slash.now) (I.state self.now.input)) ≡ true)
-            × (k ≡ kind_in (again_in I.machine (shown_spot slash.now) (I.state self.now.input))))) }
+    #[tactic(auto, using(crate::proofs::Taking::agains), unfolding(crate::specs::Cursors::stream_of))]
+    fn again(&self) -> Result<Option<u8>, Failure>
+        ensures value { IfOk result (λ x. IfSome self.now.ahead (λ t. MatchOption x
+            (in_place t (again_in I.machine t (I.state self.now.input)) ≡ false)
+            (λ k. (in_place t (again_in I.machine t (I.state self.now.input)) ≡ true)
+            × (k ≡ kind_in (again_in I.machine t (I.state self.now.input)))))) }
         ensures full { IfErr result IsMemory }
     {
-        match self.input.look(Look::Slash(slash.span.lo)) {
-            Ok(Some(token)) if in_place(slash, &token) => Ok(Some(token_number(&token.token))),
+        match self.input.look(Look::Slash(self.lo())) {
+            Ok(Some(token)) if comes(&self.ahead, &token) => {
+                Ok(Some(token_number(&token.token)))
+            }
             Ok(_) => Ok(None),
             Err(_) => Err(Failure::Memory),
         }
@@ -175,7 +175,7 @@ impl<'a, I: Tokens<'a> + Drop> Parser<'a, I> {
     ///
     /// Want of memory.
     #[inline(never)]
-    #[tactic(auto, unfolding(crate::specs::Cursors::stream_of))]
+    #[tactic(auto, using(crate::proofs::Taking::operands, crate::proofs::Firsts::firsts), unfolding(crate::specs::Cursors::stream_of))]
     fn reread(&mut self) -> Result<(), Failure>
         requires slash { is_slash (kind (at_hand I.machine I.state self.old)) ≡ true }
         ensures value { OnOk result (state_of I.state self.new
@@ -183,19 +183,16 @@ impl<'a, I: Tokens<'a> + Drop> Parser<'a, I> {
         ensures not_longer { NotLonger I.machine I.state self.old self.new result }
         ensures full { IfErr result IsMemory }
     {
-        let Some(slash) = &self.ahead.token else {
-            return Ok(());
-        };
-        let place = slash.span.lo;
-        if self.again(slash)?.is_none() {
+        if self.ahead.is_none() {
             return Ok(());
         }
+        if self.again()?.is_none() {
+            return Ok(());
+        }
+        let place = self.lo();
         self.input.set_next_regexp(Some(place));
-        let Ok(next) = self.input.next() else {
-            return Err(Failure::Memory);
-        };
+        self.input.next_into(&mut self.ahead)?;
         self.input.set_next_regexp(None);
-        self.ahead = Ahead::new(next);
         Ok(())
     }
 
@@ -205,7 +202,7 @@ impl<'a, I: Tokens<'a> + Drop> Parser<'a, I> {
     ///
     /// Want of memory.
     #[inline(never)]
-    #[tactic(auto, unfolding(crate::specs::Cursors::stream_of))]
+    #[tactic(auto, using(crate::proofs::Taking::operands, crate::proofs::Firsts::firsts), unfolding(crate::specs::Cursors::stream_of))]
     pub fn reread_kind(&self) -> Result<u8, Failure>
         requires slash { is_slash (kind (at_hand I.machine I.state self.now)) ≡ true }
         ensures value { IfOk result (λ k. k ≡ kind
@@ -213,10 +210,7 @@ impl<'a, I: Tokens<'a> + Drop> Parser<'a, I> {
             (spec.operand (stream_of I.machine) (state_of I.state self.now)))) }
         ensures full { IfErr result IsMemory }
     {
-        let Some(slash) = &self.ahead.token else {
-            return Ok(kinds::END);
-        };
-        match self.again(slash)? {
+        match self.again()? {
             Some(kind) => Ok(kind),
             None => Ok(self.kind()),
         }

@@ -1,5 +1,6 @@
 -- Lists by what was added last.
-use Rattle.std.proofs.Common.{◌≡◌, ℕ, zero, suc, Bool, true, false, ◌||◌, List, [], ◌∷◌, ◌++◌, All, map, refl, sym, ap, arith, ◌∙◌}
+use Rattle.std.proofs.Common.{◌≡◌, ℕ, zero, suc, ◌||◌, List, [], ◌∷◌, ◌++◌, All, map, refl, sym, ap, arith, ◌∙◌}
+use Rattle.std.proofs.Math.Bool.{or-false, or_assoc}
 use Rattle.tree_spec.specs.Tree.{Tree, if_stmt}
 use Rattle.grammar_spec.specs.Tokens.Input.{span}
 use Rattle.grammar_spec.specs.Tokens.Shape.{is_default_case}
@@ -7,16 +8,8 @@ use Rattle.grammar_spec.specs.Reader.Source.{Stream, Inner}
 use Rattle.grammar_spec.specs.Reader.Statements.{Branch, chained, has_default}
 use Rattle.parse_statements.specs.Lists.{any_default}
 
-or_assoc : (a b c : Bool) → ((a || b) || c) ≡ (a || (b || c))
-or_assoc true b c = refl
-or_assoc false b c = refl
-
-or_none : (a : Bool) → (a || false) ≡ a
-or_none true = refl
-or_none false = refl
-
 pub any_more : {A : Type 0} (f : A → Tree) (xs : List A) (y : A) → any_default (map f (xs ++ y ∷ [])) ≡ (any_default (map f xs) || is_default_case (f y))
-any_more f [] y = or_none (is_default_case (f y))
+any_more f [] y = or-false (is_default_case (f y))
 any_more f (x ∷ xs) y = ap (λ b. is_default_case (f x) || b) (any_more f xs y) ∙ sym (or_assoc (is_default_case (f x)) (any_default (map f xs)) (is_default_case (f y)))
 
 pub has_any : {S : Type 0} (m : Stream S) (inner : Inner S) (ts : List Tree) → has_default m inner ts ≡ any_default ts

@@ -90,7 +90,7 @@ pub fn alternative<'a, I: Tokens<'a> + Drop, N: Nested<'a, I>>(
 
 /// One `if` of a chain. Whether another follows.
 #[inline(always)]
-#[tactic(auto, using(parse_state::proofs::Marks::marks), unfolding(grammar_spec::specs::Reader::Statements::if_step))]
+#[tactic(auto, unfolding(grammar_spec::specs::Reader::Statements::if_step))]
 pub fn chain_turn<'a, I: Tokens<'a> + Drop, N: Nested<'a, I>>(
     p: &mut Parser<'a, I>,
     nested: &N,
@@ -183,7 +183,7 @@ pub fn chained(
 
 /// `if`, with its chain of `else if`.
 #[inline(never)]
-#[tactic(auto, using(parse_state::proofs::Marks::marks), unfolding(grammar_spec::specs::Reader::Statements::if_by, crate::specs::Lists::chain_items))]
+#[tactic(auto, unfolding(grammar_spec::specs::Reader::Statements::if_by, crate::specs::Lists::chain_items))]
 pub fn if_stmt<'a, I: Tokens<'a> + Drop, N: Nested<'a, I>>(
     p: &mut Parser<'a, I>,
     nested: &N,

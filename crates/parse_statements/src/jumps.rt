@@ -32,7 +32,7 @@ fn ends_here<'a, I: Tokens<'a> + Drop, N: Nested<'a, I>>(
 
 /// `return`.
 #[inline(never)]
-#[tactic(auto, using(parse_state::proofs::Marks::marks), unfolding(grammar_spec::specs::Reader::Statements::return_by))]
+#[tactic(auto, unfolding(grammar_spec::specs::Reader::Statements::return_by))]
 pub fn return_stmt<'a, I: Tokens<'a> + Drop, N: Nested<'a, I>>(
     p: &mut Parser<'a, I>,
     nested: &N,
@@ -57,7 +57,7 @@ pub fn return_stmt<'a, I: Tokens<'a> + Drop, N: Nested<'a, I>>(
 
 /// `throw`, with its operand on its line.
 #[inline(never)]
-#[tactic(auto, using(parse_state::proofs::Marks::marks), unfolding(grammar_spec::specs::Reader::Statements::throw_by))]
+#[tactic(auto, unfolding(grammar_spec::specs::Reader::Statements::throw_by))]
 pub fn throw_stmt<'a, I: Tokens<'a> + Drop, N: Nested<'a, I>>(
     p: &mut Parser<'a, I>,
     nested: &N,
@@ -81,7 +81,7 @@ pub fn throw_stmt<'a, I: Tokens<'a> + Drop, N: Nested<'a, I>>(
 
 /// A label on its line, or none.
 #[inline(never)]
-#[tactic(auto, using(parse_state::proofs::Marks::marks), unfolding(grammar_spec::specs::Reader::Statements::label_by))]
+#[tactic(auto, unfolding(grammar_spec::specs::Reader::Statements::label_by))]
 pub fn label<'a, I: Tokens<'a> + Drop, N: Nested<'a, I>>(
     p: &mut Parser<'a, I>,
     _nested: &N,
@@ -102,7 +102,7 @@ pub fn label<'a, I: Tokens<'a> + Drop, N: Nested<'a, I>>(
 
 /// `break`.
 #[inline(never)]
-#[tactic(auto, using(parse_state::proofs::Marks::marks), unfolding(grammar_spec::specs::Reader::Statements::jump_by))]
+#[tactic(auto, unfolding(grammar_spec::specs::Reader::Statements::jump_by))]
 pub fn break_stmt<'a, I: Tokens<'a> + Drop, N: Nested<'a, I>>(
     p: &mut Parser<'a, I>,
     nested: &N,
@@ -123,7 +123,7 @@ pub fn break_stmt<'a, I: Tokens<'a> + Drop, N: Nested<'a, I>>(
 
 /// `continue`.
 #[inline(never)]
-#[tactic(auto, using(parse_state::proofs::Marks::marks), unfolding(grammar_spec::specs::Reader::Statements::jump_by))]
+#[tactic(auto, unfolding(grammar_spec::specs::Reader::Statements::jump_by))]
 pub fn continue_stmt<'a, I: Tokens<'a> + Drop, N: Nested<'a, I>>(
     p: &mut Parser<'a, I>,
     nested: &N,
@@ -144,7 +144,7 @@ pub fn continue_stmt<'a, I: Tokens<'a> + Drop, N: Nested<'a, I>>(
 
 /// `debugger`.
 #[inline(never)]
-#[tactic(auto, using(parse_state::proofs::Marks::marks), unfolding(grammar_spec::specs::Reader::Statements::debugger_by))]
+#[tactic(auto, unfolding(grammar_spec::specs::Reader::Statements::debugger_by))]
 pub fn debugger_stmt<'a, I: Tokens<'a> + Drop, N: Nested<'a, I>>(
     p: &mut Parser<'a, I>,
     _nested: &N,

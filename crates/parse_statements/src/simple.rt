@@ -5,7 +5,6 @@ ghost use Rattle.tree_nodes.specs.Placed.{holds_stmt};
 ghost use Rattle.tree_nodes.specs.View.{view_ident};
 ghost use Rattle.grammar_spec.specs.Reader.Statements as reads;
 ghost use Rattle.parse_state.specs.Codes.{code_of};
-ghost use Rattle.parse_state.specs.States.{from};
 ghost use Rattle.parse_state.specs.Reads.{Shorter};
 ghost use Rattle.parse_operands.specs.Operands.{tree_of, tree_in};
 ghost use Rattle.parse_operands.specs.Rules.{ReadsBy};
@@ -20,7 +19,7 @@ use tree_nodes::{ExprKind, Ident, StmtBox};
 
 /// `with`.
 #[inline(never)]
-#[tactic(auto, using(parse_state::proofs::Marks::marks), unfolding(grammar_spec::specs::Reader::Statements::with_by))]
+#[tactic(auto, unfolding(grammar_spec::specs::Reader::Statements::with_by))]
 pub fn with<'a, I: Tokens<'a> + Drop, N: Nested<'a, I>>(
     p: &mut Parser<'a, I>,
     nested: &N,
@@ -59,7 +58,7 @@ fn into_name(operand: Operand) -> Ident
 
 /// What follows a label, from its colon on.
 #[inline(never)]
-#[tactic(auto, using(parse_state::proofs::Marks::marks), unfolding(grammar_spec::specs::Reader::Statements::labelled_by))]
+#[tactic(auto, unfolding(grammar_spec::specs::Reader::Statements::labelled_by))]
 pub fn labelled<'a, I: Tokens<'a> + Drop, N: Nested<'a, I>>(
     p: &mut Parser<'a, I>,
     nested: &N,
@@ -69,7 +68,7 @@ pub fn labelled<'a, I: Tokens<'a> + Drop, N: Nested<'a, I>>(
 ) -> Result<StmtBox, Failure>
     requires ready { N.ready nested.now }
     ensures value { ReadsBy I.machine I.state (N.reads nested.now) p.old p.new result
-        tree_in (λ m r. reads.labelled_by m r (code_of code) (from start.0) (view_ident label)) }
+        tree_in (λ m r. reads.labelled_by m r (code_of code) start.0 (view_ident label)) }
     ensures holds { IfOk result (λ x. holds_stmt x.part.value) }
     ensures shorter { Shorter I.machine I.state p.old p.new result }
 {
@@ -80,7 +79,7 @@ pub fn labelled<'a, I: Tokens<'a> + Drop, N: Nested<'a, I>>(
 
 /// An expression that starts a statement: a label where it is a name before a colon.
 #[inline(never)]
-#[tactic(auto, using(parse_state::proofs::Marks::marks, crate::proofs::Starts::starts), unfolding(grammar_spec::specs::Reader::Statements::expression_by))]
+#[tactic(auto, unfolding(grammar_spec::specs::Reader::Statements::expression_by))]
 pub fn expression<'a, I: Tokens<'a> + Drop, N: Nested<'a, I>>(
     p: &mut Parser<'a, I>,
     nested: &N,

@@ -7,7 +7,6 @@ ghost use Rattle.tree_nodes.specs.View.{view_switch_case};
 ghost use Rattle.grammar_spec.specs.Reader.Statements as reads;
 ghost use Rattle.parse_state.specs.Answers.{going_on};
 ghost use Rattle.parse_state.specs.Codes.{code_of};
-ghost use Rattle.parse_state.specs.States.{from};
 ghost use Rattle.parse_state.specs.Reads.{to_come, Shorter, NotLonger};
 ghost use Rattle.parse_operands.specs.Rules.{ReadsBy};
 ghost use Rattle.parse_operands.specs.Operands.{tree_in};
@@ -76,7 +75,7 @@ pub fn case_items<'a, I: Tokens<'a> + Drop, N: Nested<'a, I>>(
 
 /// A case of a `switch`.
 #[inline(never)]
-#[tactic(auto, using(parse_state::proofs::Marks::marks, parse_operands::proofs::Packs::packs), unfolding(grammar_spec::specs::Reader::Statements::case_by, grammar_spec::specs::Reader::Statements::case_rest, crate::specs::Lists::case_items))]
+#[tactic(auto, using(parse_operands::proofs::Packs::packs), unfolding(grammar_spec::specs::Reader::Statements::case_by, grammar_spec::specs::Reader::Statements::case_rest, crate::specs::Lists::case_items))]
 pub fn case<'a, I: Tokens<'a> + Drop, N: Nested<'a, I>>(
     p: &mut Parser<'a, I>,
     nested: &N,
@@ -181,7 +180,7 @@ pub fn cases<'a, I: Tokens<'a> + Drop, N: Nested<'a, I>>(
 
 /// `switch`.
 #[inline(never)]
-#[tactic(auto, using(parse_state::proofs::Marks::marks, parse_operands::proofs::Packs::packs), unfolding(grammar_spec::specs::Reader::Statements::switch_by, crate::specs::Lists::switch_cases))]
+#[tactic(auto, using(parse_operands::proofs::Packs::packs), unfolding(grammar_spec::specs::Reader::Statements::switch_by, crate::specs::Lists::switch_cases))]
 pub fn switch<'a, I: Tokens<'a> + Drop, N: Nested<'a, I>>(
     p: &mut Parser<'a, I>,
     nested: &N,

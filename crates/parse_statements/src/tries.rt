@@ -6,7 +6,6 @@ ghost use Rattle.tree_nodes.specs.View.{view_block_stmt, view_catch_clause};
 ghost use Rattle.tree_spec.specs.Tree.{part_by};
 ghost use Rattle.grammar_spec.specs.Reader.Statements as reads;
 ghost use Rattle.parse_state.specs.Codes.{code_of};
-ghost use Rattle.parse_state.specs.States.{from};
 ghost use Rattle.parse_state.specs.Reads.{Shorter, NotLonger};
 ghost use Rattle.parse_operands.specs.Rules.{ReadsBy};
 ghost use Rattle.parse_operands.specs.Operands.{tree_in};
@@ -20,7 +19,7 @@ use tree_nodes::{BlockStmt, CatchClause, StmtBox};
 
 /// `catch`.
 #[inline(never)]
-#[tactic(auto, using(parse_state::proofs::Marks::marks), unfolding(grammar_spec::specs::Reader::Statements::catch_by))]
+#[tactic(auto, unfolding(grammar_spec::specs::Reader::Statements::catch_by))]
 pub fn catch<'a, I: Tokens<'a> + Drop, N: Nested<'a, I>>(
     p: &mut Parser<'a, I>,
     nested: &N,
@@ -56,7 +55,7 @@ pub fn catch<'a, I: Tokens<'a> + Drop, N: Nested<'a, I>>(
 
 /// `finally`, or the end of a `try` that has `catch`.
 #[inline(never)]
-#[tactic(auto, using(parse_state::proofs::Marks::marks), unfolding(grammar_spec::specs::Reader::Statements::finally_by))]
+#[tactic(auto, unfolding(grammar_spec::specs::Reader::Statements::finally_by))]
 pub fn finally<'a, I: Tokens<'a> + Drop, N: Nested<'a, I>>(
     p: &mut Parser<'a, I>,
     nested: &N,
@@ -70,7 +69,7 @@ pub fn finally<'a, I: Tokens<'a> + Drop, N: Nested<'a, I>>(
     requires handler { fits_held (λ x. fits_catch_clause (λ p. p) x) handler }
     ensures value { ReadsBy I.machine I.state (N.reads nested.now) p.old p.new result
         tree_in
-        (λ m r. reads.finally_by m r (code_of code) (from start.0) (view_block_stmt inner body)
+        (λ m r. reads.finally_by m r (code_of code) start.0 (view_block_stmt inner body)
         (part_by (view_catch_clause inner) handler)) }
     ensures holds { IfOk result (λ x. holds_stmt x.part.value) }
     ensures not_longer { NotLonger I.machine I.state p.old p.new result }
@@ -88,7 +87,7 @@ pub fn finally<'a, I: Tokens<'a> + Drop, N: Nested<'a, I>>(
 
 /// `try`.
 #[inline(never)]
-#[tactic(auto, using(parse_state::proofs::Marks::marks, crate::proofs::Starts::starts), unfolding(grammar_spec::specs::Reader::Statements::try_by))]
+#[tactic(auto, unfolding(grammar_spec::specs::Reader::Statements::try_by))]
 pub fn try_stmt<'a, I: Tokens<'a> + Drop, N: Nested<'a, I>>(
     p: &mut Parser<'a, I>,
     nested: &N,

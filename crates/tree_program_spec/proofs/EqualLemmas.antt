@@ -4,6 +4,7 @@ use Rattle.std.proofs.Common.{◌≡◌, ◌∙◌, ℕ, Bool, true, false, ◌&
 use Rattle.std.specs.Ordering.{int_eq}
 use Rattle.std.specs.Bool.{Decides}
 use Rattle.std.proofs.Math.Bool.{beq}
+use Rattle.std.proofs.lemmas.Bool.{and_parts}
 use Rattle.std.proofs.lemmas.Bool.Decides.{Decides-eqb, Decides-int_eq}
 use Rattle.std.proofs.lemmas.Slice.Eq.{bytes_eq-Decides}
 use Rattle.base_token.specs.declared.place.Span.{Span}
@@ -16,14 +17,6 @@ no h = absurd cc
 
 both : {x y : Bool} → x ≡ true → y ≡ true → (x && y) ≡ true
 both h k = rw h k
-
-first : (x y : Bool) → (x && y) ≡ true → x ≡ true
-first true y h = refl
-first false y h = h
-
-rest : (x y : Bool) → (x && y) ≡ true → y ≡ true
-rest true y h = h
-rest false y h = no h
 
 same_nat_eq : (n : ℕ) → nat_eq n n ≡ true
 same_nat_eq n = (Decides-eqb n n).1 refl
@@ -55,9 +48,8 @@ span_at lo hi = record { lo = record { 0 = lo }; hi = record { 0 = hi } }
 
 from_equal_span : (a b : Span) → equal_span a b ≡ true → a ≡ b
 from_equal_span a b h =
-    let p = from_nat_eq a.lo.0 b.lo.0 (first (nat_eq a.lo.0 b.lo.0) (nat_eq a.hi.0 b.hi.0) h) in
-    let q = from_nat_eq a.hi.0 b.hi.0 (rest (nat_eq a.lo.0 b.lo.0) (nat_eq a.hi.0 b.hi.0) h) in
-    ap (λ n. span_at n a.hi.0) p ∙ ap (λ n. span_at b.lo.0 n) q
+    let k = and_parts (nat_eq a.lo.0 b.lo.0) (nat_eq a.hi.0 b.hi.0) h in
+    ap (λ n. span_at n a.hi.0) (from_nat_eq a.lo.0 b.lo.0 k.0) ∙ ap (λ n. span_at b.lo.0 n) (from_nat_eq a.hi.0 b.hi.0 k.1)
 
 same_equal_place : (a : Option Span) → equal_place a a ≡ true
 same_equal_place None = refl
@@ -85,26 +77,25 @@ same_equal_number (InRadix radix digits) = both (same_nat_eq radix) (same_bytes_
 
 from_equal_number : (a b : SpecNumber) → equal_number a b ≡ true → a ≡ b
 from_equal_number (Scaled d e) (Scaled d2 e2) h =
-    ap (λ x. Scaled x e) (from_bytes_eq d d2 (first (bytes_eq d d2) (int_eq e e2) h)) ∙ ap (λ x. Scaled d2 x) ((Decides-int_eq e e2).0 (rest (bytes_eq d d2) (int_eq e e2) h))
+    let k = and_parts (bytes_eq d d2) (int_eq e e2) h in
+    ap (λ x. Scaled x e) (from_bytes_eq d d2 k.0) ∙ ap (λ x. Scaled d2 x) ((Decides-int_eq e e2).0 k.1)
 from_equal_number (InRadix r d) (InRadix r2 d2) h =
-    ap (λ x. InRadix x d) (from_nat_eq r r2 (first (nat_eq r r2) (bytes_eq d d2) h)) ∙ ap (λ x. InRadix r2 x) (from_bytes_eq d d2 (rest (nat_eq r r2) (bytes_eq d d2) h))
+    let k = and_parts (nat_eq r r2) (bytes_eq d d2) h in
+    ap (λ x. InRadix x d) (from_nat_eq r r2 k.0) ∙ ap (λ x. InRadix r2 x) (from_bytes_eq d d2 k.1)
 from_equal_number (Scaled d e) (InRadix r d2) h = no h
 from_equal_number (InRadix r d) (Scaled d2 e) h = no h
 
-each_of_two : (a b : Bool) → (a && b) ≡ true → (a ≡ true) × (b ≡ true)
-each_of_two a b h = (first a b h, rest a b h)
-
 each_of_three : (a b c : Bool) → (a && (b && c)) ≡ true → (a ≡ true) × (b ≡ true) × (c ≡ true)
-each_of_three a b c h = let k = each_of_two b c (rest a (b && c) h) in (first a (b && c) h, k.0, k.1)
+each_of_three a b c h = let k = and_parts a (b && c) h in let l = and_parts b c k.1 in (k.0, l.0, l.1)
 
 each_of_four : (a b c d : Bool) → (a && (b && (c && d))) ≡ true → (a ≡ true) × (b ≡ true) × (c ≡ true) × (d ≡ true)
-each_of_four a b c d h = let k = each_of_three b c d (rest a (b && (c && d)) h) in (first a (b && (c && d)) h, k.0, k.1, k.2)
+each_of_four a b c d h = let k = and_parts a (b && (c && d)) h in let l = each_of_three b c d k.1 in (k.0, l.0, l.1, l.2)
 
 each_of_five : (a b c d e : Bool) → (a && (b && (c && (d && e)))) ≡ true → (a ≡ true) × (b ≡ true) × (c ≡ true) × (d ≡ true) × (e ≡ true)
-each_of_five a b c d e h = let k = each_of_four b c d e (rest a (b && (c && (d && e))) h) in (first a (b && (c && (d && e))) h, k.0, k.1, k.2, k.3)
+each_of_five a b c d e h = let k = and_parts a (b && (c && (d && e))) h in let l = each_of_four b c d e k.1 in (k.0, l.0, l.1, l.2, l.3)
 
 each_of_six : (a b c d e f : Bool) → (a && (b && (c && (d && (e && f))))) ≡ true → (a ≡ true) × (b ≡ true) × (c ≡ true) × (d ≡ true) × (e ≡ true) × (f ≡ true)
-each_of_six a b c d e f h = let k = each_of_five b c d e f (rest a (b && (c && (d && (e && f)))) h) in (first a (b && (c && (d && (e && f)))) h, k.0, k.1, k.2, k.3, k.4)
+each_of_six a b c d e f h = let k = and_parts a (b && (c && (d && (e && f)))) h in let l = each_of_five b c d e f k.1 in (k.0, l.0, l.1, l.2, l.3, l.4)
 
 congr_two : {A B X : Type 0} (make : A → B → X) {a a2 : A} {b b2 : B}
     → a ≡ a2 → b ≡ b2 → make a b ≡ make a2 b2
@@ -251,29 +242,29 @@ mutual
   from_equal (script span body shebang) (script span2 body2 shebang2) h = let k = each_of_three (equal_span span span2) (equal_all body body2) (equal_text shebang shebang2) h in congr_three (λ a b c. script a b c) (from_equal_span span span2 k.0) (from_equal_all body body2 k.1) (from_equal_text shebang shebang2 k.2)
   from_equal (es_module span body shebang) (es_module span2 body2 shebang2) h = let k = each_of_three (equal_span span span2) (equal_all body body2) (equal_text shebang shebang2) h in congr_three (λ a b c. es_module a b c) (from_equal_span span span2 k.0) (from_equal_all body body2 k.1) (from_equal_text shebang shebang2 k.2)
   from_equal (import_decl span specifiers src with_) (import_decl span2 specifiers2 src2 with_2) h = let k = each_of_four (equal_span span span2) (equal_all specifiers specifiers2) (equal src src2) (equal with_ with_2) h in congr_four (λ a b c d. import_decl a b c d) (from_equal_span span span2 k.0) (from_equal_all specifiers specifiers2 k.1) (from_equal src src2 k.2) (from_equal with_ with_2 k.3)
-  from_equal (export_decl span decl) (export_decl span2 decl2) h = let k = each_of_two (equal_span span span2) (equal decl decl2) h in congr_two (λ a b. export_decl a b) (from_equal_span span span2 k.0) (from_equal decl decl2 k.1)
+  from_equal (export_decl span decl) (export_decl span2 decl2) h = let k = and_parts (equal_span span span2) (equal decl decl2) h in congr_two (λ a b. export_decl a b) (from_equal_span span span2 k.0) (from_equal decl decl2 k.1)
   from_equal (named_export span specifiers src with_) (named_export span2 specifiers2 src2 with_2) h = let k = each_of_four (equal_span span span2) (equal_all specifiers specifiers2) (equal src src2) (equal with_ with_2) h in congr_four (λ a b c d. named_export a b c d) (from_equal_span span span2 k.0) (from_equal_all specifiers specifiers2 k.1) (from_equal src src2 k.2) (from_equal with_ with_2 k.3)
-  from_equal (export_default_decl span decl) (export_default_decl span2 decl2) h = let k = each_of_two (equal_span span span2) (equal decl decl2) h in congr_two (λ a b. export_default_decl a b) (from_equal_span span span2 k.0) (from_equal decl decl2 k.1)
-  from_equal (export_default_expr span expr) (export_default_expr span2 expr2) h = let k = each_of_two (equal_span span span2) (equal expr expr2) h in congr_two (λ a b. export_default_expr a b) (from_equal_span span span2 k.0) (from_equal expr expr2 k.1)
+  from_equal (export_default_decl span decl) (export_default_decl span2 decl2) h = let k = and_parts (equal_span span span2) (equal decl decl2) h in congr_two (λ a b. export_default_decl a b) (from_equal_span span span2 k.0) (from_equal decl decl2 k.1)
+  from_equal (export_default_expr span expr) (export_default_expr span2 expr2) h = let k = and_parts (equal_span span span2) (equal expr expr2) h in congr_two (λ a b. export_default_expr a b) (from_equal_span span span2 k.0) (from_equal expr expr2 k.1)
   from_equal (export_all span src with_) (export_all span2 src2 with_2) h = let k = each_of_three (equal_span span span2) (equal src src2) (equal with_ with_2) h in congr_three (λ a b c. export_all a b c) (from_equal_span span span2 k.0) (from_equal src src2 k.1) (from_equal with_ with_2 k.2)
   from_equal (import_named_specifier span local imported) (import_named_specifier span2 local2 imported2) h = let k = each_of_three (equal_span span span2) (equal local local2) (equal imported imported2) h in congr_three (λ a b c. import_named_specifier a b c) (from_equal_span span span2 k.0) (from_equal local local2 k.1) (from_equal imported imported2 k.2)
-  from_equal (import_default_specifier span local) (import_default_specifier span2 local2) h = let k = each_of_two (equal_span span span2) (equal local local2) h in congr_two (λ a b. import_default_specifier a b) (from_equal_span span span2 k.0) (from_equal local local2 k.1)
-  from_equal (import_star_as_specifier span local) (import_star_as_specifier span2 local2) h = let k = each_of_two (equal_span span span2) (equal local local2) h in congr_two (λ a b. import_star_as_specifier a b) (from_equal_span span span2 k.0) (from_equal local local2 k.1)
-  from_equal (export_namespace_specifier span name) (export_namespace_specifier span2 name2) h = let k = each_of_two (equal_span span span2) (equal name name2) h in congr_two (λ a b. export_namespace_specifier a b) (from_equal_span span span2 k.0) (from_equal name name2 k.1)
-  from_equal (export_default_specifier span exported) (export_default_specifier span2 exported2) h = let k = each_of_two (equal_span span span2) (equal exported exported2) h in congr_two (λ a b. export_default_specifier a b) (from_equal_span span span2 k.0) (from_equal exported exported2 k.1)
+  from_equal (import_default_specifier span local) (import_default_specifier span2 local2) h = let k = and_parts (equal_span span span2) (equal local local2) h in congr_two (λ a b. import_default_specifier a b) (from_equal_span span span2 k.0) (from_equal local local2 k.1)
+  from_equal (import_star_as_specifier span local) (import_star_as_specifier span2 local2) h = let k = and_parts (equal_span span span2) (equal local local2) h in congr_two (λ a b. import_star_as_specifier a b) (from_equal_span span span2 k.0) (from_equal local local2 k.1)
+  from_equal (export_namespace_specifier span name) (export_namespace_specifier span2 name2) h = let k = and_parts (equal_span span span2) (equal name name2) h in congr_two (λ a b. export_namespace_specifier a b) (from_equal_span span span2 k.0) (from_equal name name2 k.1)
+  from_equal (export_default_specifier span exported) (export_default_specifier span2 exported2) h = let k = and_parts (equal_span span span2) (equal exported exported2) h in congr_two (λ a b. export_default_specifier a b) (from_equal_span span span2 k.0) (from_equal exported exported2 k.1)
   from_equal (export_named_specifier span orig exported) (export_named_specifier span2 orig2 exported2) h = let k = each_of_three (equal_span span span2) (equal orig orig2) (equal exported exported2) h in congr_three (λ a b c. export_named_specifier a b c) (from_equal_span span span2 k.0) (from_equal orig orig2 k.1) (from_equal exported exported2 k.2)
-  from_equal (block_stmt span stmts) (block_stmt span2 stmts2) h = let k = each_of_two (equal_span span span2) (equal_all stmts stmts2) h in congr_two (λ a b. block_stmt a b) (from_equal_span span span2 k.0) (from_equal_all stmts stmts2 k.1)
+  from_equal (block_stmt span stmts) (block_stmt span2 stmts2) h = let k = and_parts (equal_span span span2) (equal_all stmts stmts2) h in congr_two (λ a b. block_stmt a b) (from_equal_span span span2 k.0) (from_equal_all stmts stmts2 k.1)
   from_equal (empty_stmt span) (empty_stmt span2) h = ap (λ x. empty_stmt x) (from_equal_span span span2 h)
   from_equal (debugger_stmt span) (debugger_stmt span2) h = ap (λ x. debugger_stmt x) (from_equal_span span span2 h)
   from_equal (with_stmt span obj body) (with_stmt span2 obj2 body2) h = let k = each_of_three (equal_span span span2) (equal obj obj2) (equal body body2) h in congr_three (λ a b c. with_stmt a b c) (from_equal_span span span2 k.0) (from_equal obj obj2 k.1) (from_equal body body2 k.2)
-  from_equal (return_stmt span arg) (return_stmt span2 arg2) h = let k = each_of_two (equal_span span span2) (equal arg arg2) h in congr_two (λ a b. return_stmt a b) (from_equal_span span span2 k.0) (from_equal arg arg2 k.1)
+  from_equal (return_stmt span arg) (return_stmt span2 arg2) h = let k = and_parts (equal_span span span2) (equal arg arg2) h in congr_two (λ a b. return_stmt a b) (from_equal_span span span2 k.0) (from_equal arg arg2 k.1)
   from_equal (labeled_stmt span label body) (labeled_stmt span2 label2 body2) h = let k = each_of_three (equal_span span span2) (equal label label2) (equal body body2) h in congr_three (λ a b c. labeled_stmt a b c) (from_equal_span span span2 k.0) (from_equal label label2 k.1) (from_equal body body2 k.2)
-  from_equal (break_stmt span label) (break_stmt span2 label2) h = let k = each_of_two (equal_span span span2) (equal label label2) h in congr_two (λ a b. break_stmt a b) (from_equal_span span span2 k.0) (from_equal label label2 k.1)
-  from_equal (continue_stmt span label) (continue_stmt span2 label2) h = let k = each_of_two (equal_span span span2) (equal label label2) h in congr_two (λ a b. continue_stmt a b) (from_equal_span span span2 k.0) (from_equal label label2 k.1)
+  from_equal (break_stmt span label) (break_stmt span2 label2) h = let k = and_parts (equal_span span span2) (equal label label2) h in congr_two (λ a b. break_stmt a b) (from_equal_span span span2 k.0) (from_equal label label2 k.1)
+  from_equal (continue_stmt span label) (continue_stmt span2 label2) h = let k = and_parts (equal_span span span2) (equal label label2) h in congr_two (λ a b. continue_stmt a b) (from_equal_span span span2 k.0) (from_equal label label2 k.1)
   from_equal (if_stmt span test cons alt) (if_stmt span2 test2 cons2 alt2) h = let k = each_of_four (equal_span span span2) (equal test test2) (equal cons cons2) (equal alt alt2) h in congr_four (λ a b c d. if_stmt a b c d) (from_equal_span span span2 k.0) (from_equal test test2 k.1) (from_equal cons cons2 k.2) (from_equal alt alt2 k.3)
   from_equal (switch_stmt span discriminant cases) (switch_stmt span2 discriminant2 cases2) h = let k = each_of_three (equal_span span span2) (equal discriminant discriminant2) (equal_all cases cases2) h in congr_three (λ a b c. switch_stmt a b c) (from_equal_span span span2 k.0) (from_equal discriminant discriminant2 k.1) (from_equal_all cases cases2 k.2)
   from_equal (switch_case span test cons) (switch_case span2 test2 cons2) h = let k = each_of_three (equal_span span span2) (equal test test2) (equal_all cons cons2) h in congr_three (λ a b c. switch_case a b c) (from_equal_span span span2 k.0) (from_equal test test2 k.1) (from_equal_all cons cons2 k.2)
-  from_equal (throw_stmt span arg) (throw_stmt span2 arg2) h = let k = each_of_two (equal_span span span2) (equal arg arg2) h in congr_two (λ a b. throw_stmt a b) (from_equal_span span span2 k.0) (from_equal arg arg2 k.1)
+  from_equal (throw_stmt span arg) (throw_stmt span2 arg2) h = let k = and_parts (equal_span span span2) (equal arg arg2) h in congr_two (λ a b. throw_stmt a b) (from_equal_span span span2 k.0) (from_equal arg arg2 k.1)
   from_equal (try_stmt span block handler finalizer) (try_stmt span2 block2 handler2 finalizer2) h = let k = each_of_four (equal_span span span2) (equal block block2) (equal handler handler2) (equal finalizer finalizer2) h in congr_four (λ a b c d. try_stmt a b c d) (from_equal_span span span2 k.0) (from_equal block block2 k.1) (from_equal handler handler2 k.2) (from_equal finalizer finalizer2 k.3)
   from_equal (catch_clause span param_ body) (catch_clause span2 param_2 body2) h = let k = each_of_three (equal_span span span2) (equal param_ param_2) (equal body body2) h in congr_three (λ a b c. catch_clause a b c) (from_equal_span span span2 k.0) (from_equal param_ param_2 k.1) (from_equal body body2 k.2)
   from_equal (while_stmt span test body) (while_stmt span2 test2 body2) h = let k = each_of_three (equal_span span span2) (equal test test2) (equal body body2) h in congr_three (λ a b c. while_stmt a b c) (from_equal_span span span2 k.0) (from_equal test test2 k.1) (from_equal body body2 k.2)
@@ -281,7 +272,7 @@ mutual
   from_equal (for_stmt span init test update body) (for_stmt span2 init2 test2 update2 body2) h = let k = each_of_five (equal_span span span2) (equal init init2) (equal test test2) (equal update update2) (equal body body2) h in congr_five (λ a b c d e. for_stmt a b c d e) (from_equal_span span span2 k.0) (from_equal init init2 k.1) (from_equal test test2 k.2) (from_equal update update2 k.3) (from_equal body body2 k.4)
   from_equal (for_in_stmt span left right body) (for_in_stmt span2 left2 right2 body2) h = let k = each_of_four (equal_span span span2) (equal left left2) (equal right right2) (equal body body2) h in congr_four (λ a b c d. for_in_stmt a b c d) (from_equal_span span span2 k.0) (from_equal left left2 k.1) (from_equal right right2 k.2) (from_equal body body2 k.3)
   from_equal (for_of_stmt span is_await left right body) (for_of_stmt span2 is_await2 left2 right2 body2) h = let k = each_of_five (equal_span span span2) (beq is_await is_await2) (equal left left2) (equal right right2) (equal body body2) h in congr_five (λ a b c d e. for_of_stmt a b c d e) (from_equal_span span span2 k.0) (from_beq is_await is_await2 k.1) (from_equal left left2 k.2) (from_equal right right2 k.3) (from_equal body body2 k.4)
-  from_equal (expr_stmt span expr) (expr_stmt span2 expr2) h = let k = each_of_two (equal_span span span2) (equal expr expr2) h in congr_two (λ a b. expr_stmt a b) (from_equal_span span span2 k.0) (from_equal expr expr2 k.1)
+  from_equal (expr_stmt span expr) (expr_stmt span2 expr2) h = let k = and_parts (equal_span span span2) (equal expr expr2) h in congr_two (λ a b. expr_stmt a b) (from_equal_span span span2 k.0) (from_equal expr expr2 k.1)
   from_equal (class_decl span ident_ class_) (class_decl span2 ident_2 class_2) h = let k = each_of_three (equal_span span span2) (equal ident_ ident_2) (equal class_ class_2) h in congr_three (λ a b c. class_decl a b c) (from_equal_span span span2 k.0) (from_equal ident_ ident_2 k.1) (from_equal class_ class_2 k.2)
   from_equal (fn_decl span ident_ function_) (fn_decl span2 ident_2 function_2) h = let k = each_of_three (equal_span span span2) (equal ident_ ident_2) (equal function_ function_2) h in congr_three (λ a b c. fn_decl a b c) (from_equal_span span span2 k.0) (from_equal ident_ ident_2 k.1) (from_equal function_ function_2 k.2)
   from_equal (var_decl span kind decls) (var_decl span2 kind2 decls2) h = let k = each_of_three (equal_span span span2) (nat_eq kind kind2) (equal_all decls decls2) h in congr_three (λ a b c. var_decl a b c) (from_equal_span span span2 k.0) (from_nat_eq kind kind2 k.1) (from_equal_all decls decls2 k.2)
@@ -289,21 +280,21 @@ mutual
   from_equal (var_declarator span name init) (var_declarator span2 name2 init2) h = let k = each_of_three (equal_span span span2) (equal name name2) (equal init init2) h in congr_three (λ a b c. var_declarator a b c) (from_equal_span span span2 k.0) (from_equal name name2 k.1) (from_equal init init2 k.2)
   from_equal (function span params decorators body is_generator is_async) (function span2 params2 decorators2 body2 is_generator2 is_async2) h = let k = each_of_six (equal_span span span2) (equal_all params params2) (equal_all decorators decorators2) (equal body body2) (beq is_generator is_generator2) (beq is_async is_async2) h in congr_six (λ a b c d e f. function a b c d e f) (from_equal_span span span2 k.0) (from_equal_all params params2 k.1) (from_equal_all decorators decorators2 k.2) (from_equal body body2 k.3) (from_beq is_generator is_generator2 k.4) (from_beq is_async is_async2 k.5)
   from_equal (param span decorators pat) (param span2 decorators2 pat2) h = let k = each_of_three (equal_span span span2) (equal_all decorators decorators2) (equal pat pat2) h in congr_three (λ a b c. param a b c) (from_equal_span span span2 k.0) (from_equal_all decorators decorators2 k.1) (from_equal pat pat2 k.2)
-  from_equal (decorator span expr) (decorator span2 expr2) h = let k = each_of_two (equal_span span span2) (equal expr expr2) h in congr_two (λ a b. decorator a b) (from_equal_span span span2 k.0) (from_equal expr expr2 k.1)
+  from_equal (decorator span expr) (decorator span2 expr2) h = let k = and_parts (equal_span span span2) (equal expr expr2) h in congr_two (λ a b. decorator a b) (from_equal_span span span2 k.0) (from_equal expr expr2 k.1)
   from_equal (class span decorators body super_class) (class span2 decorators2 body2 super_class2) h = let k = each_of_four (equal_span span span2) (equal_all decorators decorators2) (equal_all body body2) (equal super_class super_class2) h in congr_four (λ a b c d. class a b c d) (from_equal_span span span2 k.0) (from_equal_all decorators decorators2 k.1) (from_equal_all body body2 k.2) (from_equal super_class super_class2 k.3)
   from_equal (constructor span key params body) (constructor span2 key2 params2 body2) h = let k = each_of_four (equal_span span span2) (equal key key2) (equal_all params params2) (equal body body2) h in congr_four (λ a b c d. constructor a b c d) (from_equal_span span span2 k.0) (from_equal key key2 k.1) (from_equal_all params params2 k.2) (from_equal body body2 k.3)
   from_equal (class_method span key function_ kind is_static) (class_method span2 key2 function_2 kind2 is_static2) h = let k = each_of_five (equal_span span span2) (equal key key2) (equal function_ function_2) (nat_eq kind kind2) (beq is_static is_static2) h in congr_five (λ a b c d e. class_method a b c d e) (from_equal_span span span2 k.0) (from_equal key key2 k.1) (from_equal function_ function_2 k.2) (from_nat_eq kind kind2 k.3) (from_beq is_static is_static2 k.4)
   from_equal (private_method span key function_ kind is_static) (private_method span2 key2 function_2 kind2 is_static2) h = let k = each_of_five (equal_span span span2) (equal key key2) (equal function_ function_2) (nat_eq kind kind2) (beq is_static is_static2) h in congr_five (λ a b c d e. private_method a b c d e) (from_equal_span span span2 k.0) (from_equal key key2 k.1) (from_equal function_ function_2 k.2) (from_nat_eq kind kind2 k.3) (from_beq is_static is_static2 k.4)
   from_equal (class_prop span key value is_static decorators) (class_prop span2 key2 value2 is_static2 decorators2) h = let k = each_of_five (equal_span span span2) (equal key key2) (equal value value2) (beq is_static is_static2) (equal_all decorators decorators2) h in congr_five (λ a b c d e. class_prop a b c d e) (from_equal_span span span2 k.0) (from_equal key key2 k.1) (from_equal value value2 k.2) (from_beq is_static is_static2 k.3) (from_equal_all decorators decorators2 k.4)
   from_equal (private_prop span key value is_static decorators) (private_prop span2 key2 value2 is_static2 decorators2) h = let k = each_of_five (equal_span span span2) (equal key key2) (equal value value2) (beq is_static is_static2) (equal_all decorators decorators2) h in congr_five (λ a b c d e. private_prop a b c d e) (from_equal_span span span2 k.0) (from_equal key key2 k.1) (from_equal value value2 k.2) (from_beq is_static is_static2 k.3) (from_equal_all decorators decorators2 k.4)
-  from_equal (static_block span body) (static_block span2 body2) h = let k = each_of_two (equal_span span span2) (equal body body2) h in congr_two (λ a b. static_block a b) (from_equal_span span span2 k.0) (from_equal body body2 k.1)
+  from_equal (static_block span body) (static_block span2 body2) h = let k = and_parts (equal_span span span2) (equal body body2) h in congr_two (λ a b. static_block a b) (from_equal_span span span2 k.0) (from_equal body body2 k.1)
   from_equal (auto_accessor span key value is_static decorators) (auto_accessor span2 key2 value2 is_static2 decorators2) h = let k = each_of_five (equal_span span span2) (equal key key2) (equal value value2) (beq is_static is_static2) (equal_all decorators decorators2) h in congr_five (λ a b c d e. auto_accessor a b c d e) (from_equal_span span span2 k.0) (from_equal key key2 k.1) (from_equal value value2 k.2) (from_beq is_static is_static2 k.3) (from_equal_all decorators decorators2 k.4)
-  from_equal (ident_name span sym) (ident_name span2 sym2) h = let k = each_of_two (equal_span span span2) (bytes_eq sym sym2) h in congr_two (λ a b. ident_name a b) (from_equal_span span span2 k.0) (from_bytes_eq sym sym2 k.1)
-  from_equal (computed_prop_name span expr) (computed_prop_name span2 expr2) h = let k = each_of_two (equal_span span span2) (equal expr expr2) h in congr_two (λ a b. computed_prop_name a b) (from_equal_span span span2 k.0) (from_equal expr expr2 k.1)
-  from_equal (private_name span name) (private_name span2 name2) h = let k = each_of_two (equal_span span span2) (bytes_eq name name2) h in congr_two (λ a b. private_name a b) (from_equal_span span span2 k.0) (from_bytes_eq name name2 k.1)
+  from_equal (ident_name span sym) (ident_name span2 sym2) h = let k = and_parts (equal_span span span2) (bytes_eq sym sym2) h in congr_two (λ a b. ident_name a b) (from_equal_span span span2 k.0) (from_bytes_eq sym sym2 k.1)
+  from_equal (computed_prop_name span expr) (computed_prop_name span2 expr2) h = let k = and_parts (equal_span span span2) (equal expr expr2) h in congr_two (λ a b. computed_prop_name a b) (from_equal_span span span2 k.0) (from_equal expr expr2 k.1)
+  from_equal (private_name span name) (private_name span2 name2) h = let k = and_parts (equal_span span span2) (bytes_eq name name2) h in congr_two (λ a b. private_name a b) (from_equal_span span span2 k.0) (from_bytes_eq name name2 k.1)
   from_equal (this_expr span) (this_expr span2) h = ap (λ x. this_expr x) (from_equal_span span span2 h)
-  from_equal (array_lit span elems) (array_lit span2 elems2) h = let k = each_of_two (equal_span span span2) (equal_all elems elems2) h in congr_two (λ a b. array_lit a b) (from_equal_span span span2 k.0) (from_equal_all elems elems2 k.1)
-  from_equal (object_lit span props) (object_lit span2 props2) h = let k = each_of_two (equal_span span span2) (equal_all props props2) h in congr_two (λ a b. object_lit a b) (from_equal_span span span2 k.0) (from_equal_all props props2 k.1)
+  from_equal (array_lit span elems) (array_lit span2 elems2) h = let k = and_parts (equal_span span span2) (equal_all elems elems2) h in congr_two (λ a b. array_lit a b) (from_equal_span span span2 k.0) (from_equal_all elems elems2 k.1)
+  from_equal (object_lit span props) (object_lit span2 props2) h = let k = and_parts (equal_span span span2) (equal_all props props2) h in congr_two (λ a b. object_lit a b) (from_equal_span span span2 k.0) (from_equal_all props props2 k.1)
   from_equal (fn_expr span ident_ function_) (fn_expr span2 ident_2 function_2) h = let k = each_of_three (equal_span span span2) (equal ident_ ident_2) (equal function_ function_2) h in congr_three (λ a b c. fn_expr a b c) (from_equal_span span span2 k.0) (from_equal ident_ ident_2 k.1) (from_equal function_ function_2 k.2)
   from_equal (unary_expr span op arg) (unary_expr span2 op2 arg2) h = let k = each_of_three (equal_span span span2) (nat_eq op op2) (equal arg arg2) h in congr_three (λ a b c. unary_expr a b c) (from_equal_span span span2 k.0) (from_nat_eq op op2 k.1) (from_equal arg arg2 k.2)
   from_equal (update_expr span op prefix arg) (update_expr span2 op2 prefix2 arg2) h = let k = each_of_four (equal_span span span2) (nat_eq op op2) (beq prefix prefix2) (equal arg arg2) h in congr_four (λ a b c d. update_expr a b c d) (from_equal_span span span2 k.0) (from_nat_eq op op2 k.1) (from_beq prefix prefix2 k.2) (from_equal arg arg2 k.3)
@@ -314,39 +305,39 @@ mutual
   from_equal (cond_expr span test cons alt) (cond_expr span2 test2 cons2 alt2) h = let k = each_of_four (equal_span span span2) (equal test test2) (equal cons cons2) (equal alt alt2) h in congr_four (λ a b c d. cond_expr a b c d) (from_equal_span span span2 k.0) (from_equal test test2 k.1) (from_equal cons cons2 k.2) (from_equal alt alt2 k.3)
   from_equal (call_expr span callee args) (call_expr span2 callee2 args2) h = let k = each_of_three (equal_span span span2) (equal callee callee2) (equal_all args args2) h in congr_three (λ a b c. call_expr a b c) (from_equal_span span span2 k.0) (from_equal callee callee2 k.1) (from_equal_all args args2 k.2)
   from_equal (new_expr span callee args) (new_expr span2 callee2 args2) h = let k = each_of_three (equal_span span span2) (equal callee callee2) (equal args args2) h in congr_three (λ a b c. new_expr a b c) (from_equal_span span span2 k.0) (from_equal callee callee2 k.1) (from_equal args args2 k.2)
-  from_equal (seq_expr span exprs) (seq_expr span2 exprs2) h = let k = each_of_two (equal_span span span2) (equal_all exprs exprs2) h in congr_two (λ a b. seq_expr a b) (from_equal_span span span2 k.0) (from_equal_all exprs exprs2 k.1)
-  from_equal (ident span sym) (ident span2 sym2) h = let k = each_of_two (equal_span span span2) (bytes_eq sym sym2) h in congr_two (λ a b. ident a b) (from_equal_span span span2 k.0) (from_bytes_eq sym sym2 k.1)
+  from_equal (seq_expr span exprs) (seq_expr span2 exprs2) h = let k = and_parts (equal_span span span2) (equal_all exprs exprs2) h in congr_two (λ a b. seq_expr a b) (from_equal_span span span2 k.0) (from_equal_all exprs exprs2 k.1)
+  from_equal (ident span sym) (ident span2 sym2) h = let k = and_parts (equal_span span span2) (bytes_eq sym sym2) h in congr_two (λ a b. ident a b) (from_equal_span span span2 k.0) (from_bytes_eq sym sym2 k.1)
   from_equal (tpl span exprs quasis) (tpl span2 exprs2 quasis2) h = let k = each_of_three (equal_span span span2) (equal_all exprs exprs2) (equal_all quasis quasis2) h in congr_three (λ a b c. tpl a b c) (from_equal_span span span2 k.0) (from_equal_all exprs exprs2 k.1) (from_equal_all quasis quasis2 k.2)
   from_equal (tpl_element span tail raw cooked) (tpl_element span2 tail2 raw2 cooked2) h = let k = each_of_four (equal_span span span2) (beq tail tail2) (bytes_eq raw raw2) (equal_text cooked cooked2) h in congr_four (λ a b c d. tpl_element a b c d) (from_equal_span span span2 k.0) (from_beq tail tail2 k.1) (from_bytes_eq raw raw2 k.2) (from_equal_text cooked cooked2 k.3)
   from_equal (tagged_tpl span tag tpl_) (tagged_tpl span2 tag2 tpl_2) h = let k = each_of_three (equal_span span span2) (equal tag tag2) (equal tpl_ tpl_2) h in congr_three (λ a b c. tagged_tpl a b c) (from_equal_span span span2 k.0) (from_equal tag tag2 k.1) (from_equal tpl_ tpl_2 k.2)
   from_equal (arrow_expr span params body is_async) (arrow_expr span2 params2 body2 is_async2) h = let k = each_of_four (equal_span span span2) (equal_all params params2) (equal body body2) (beq is_async is_async2) h in congr_four (λ a b c d. arrow_expr a b c d) (from_equal_span span span2 k.0) (from_equal_all params params2 k.1) (from_equal body body2 k.2) (from_beq is_async is_async2 k.3)
   from_equal (class_expr span ident_ class_) (class_expr span2 ident_2 class_2) h = let k = each_of_three (equal_span span span2) (equal ident_ ident_2) (equal class_ class_2) h in congr_three (λ a b c. class_expr a b c) (from_equal_span span span2 k.0) (from_equal ident_ ident_2 k.1) (from_equal class_ class_2 k.2)
   from_equal (yield_expr span arg delegate) (yield_expr span2 arg2 delegate2) h = let k = each_of_three (equal_span span span2) (equal arg arg2) (beq delegate delegate2) h in congr_three (λ a b c. yield_expr a b c) (from_equal_span span span2 k.0) (from_equal arg arg2 k.1) (from_beq delegate delegate2 k.2)
-  from_equal (meta_prop_expr span kind) (meta_prop_expr span2 kind2) h = let k = each_of_two (equal_span span span2) (nat_eq kind kind2) h in congr_two (λ a b. meta_prop_expr a b) (from_equal_span span span2 k.0) (from_nat_eq kind kind2 k.1)
-  from_equal (await_expr span arg) (await_expr span2 arg2) h = let k = each_of_two (equal_span span span2) (equal arg arg2) h in congr_two (λ a b. await_expr a b) (from_equal_span span span2 k.0) (from_equal arg arg2 k.1)
-  from_equal (paren_expr span expr) (paren_expr span2 expr2) h = let k = each_of_two (equal_span span span2) (equal expr expr2) h in congr_two (λ a b. paren_expr a b) (from_equal_span span span2 k.0) (from_equal expr expr2 k.1)
+  from_equal (meta_prop_expr span kind) (meta_prop_expr span2 kind2) h = let k = and_parts (equal_span span span2) (nat_eq kind kind2) h in congr_two (λ a b. meta_prop_expr a b) (from_equal_span span span2 k.0) (from_nat_eq kind kind2 k.1)
+  from_equal (await_expr span arg) (await_expr span2 arg2) h = let k = and_parts (equal_span span span2) (equal arg arg2) h in congr_two (λ a b. await_expr a b) (from_equal_span span span2 k.0) (from_equal arg arg2 k.1)
+  from_equal (paren_expr span expr) (paren_expr span2 expr2) h = let k = and_parts (equal_span span span2) (equal expr expr2) h in congr_two (λ a b. paren_expr a b) (from_equal_span span span2 k.0) (from_equal expr expr2 k.1)
   from_equal (opt_chain_expr span optional base) (opt_chain_expr span2 optional2 base2) h = let k = each_of_three (equal_span span span2) (beq optional optional2) (equal base base2) h in congr_three (λ a b c. opt_chain_expr a b c) (from_equal_span span span2 k.0) (from_beq optional optional2 k.1) (from_equal base base2 k.2)
   from_equal (opt_call span callee args) (opt_call span2 callee2 args2) h = let k = each_of_three (equal_span span span2) (equal callee callee2) (equal_all args args2) h in congr_three (λ a b c. opt_call a b c) (from_equal_span span span2 k.0) (from_equal callee callee2 k.1) (from_equal_all args args2 k.2)
   from_equal (super span) (super span2) h = ap (λ x. super x) (from_equal_span span span2 h)
   from_equal (import span) (import span2) h = ap (λ x. import x) (from_equal_span span span2 h)
   from_equal (invalid span) (invalid span2) h = ap (λ x. invalid x) (from_equal_span span span2 h)
   from_equal (expr_or_spread span spread expr) (expr_or_spread span2 spread2 expr2) h = let k = each_of_three (equal_span span span2) (equal_place spread spread2) (equal expr expr2) h in congr_three (λ a b c. expr_or_spread a b c) (from_equal_span span span2 k.0) (from_equal_place spread spread2 k.1) (from_equal expr expr2 k.2)
-  from_equal (spread_element span expr) (spread_element span2 expr2) h = let k = each_of_two (equal_span span span2) (equal expr expr2) h in congr_two (λ a b. spread_element a b) (from_equal_span span span2 k.0) (from_equal expr expr2 k.1)
+  from_equal (spread_element span expr) (spread_element span2 expr2) h = let k = and_parts (equal_span span span2) (equal expr expr2) h in congr_two (λ a b. spread_element a b) (from_equal_span span span2 k.0) (from_equal expr expr2 k.1)
   from_equal (key_value_prop span key value) (key_value_prop span2 key2 value2) h = let k = each_of_three (equal_span span span2) (equal key key2) (equal value value2) h in congr_three (λ a b c. key_value_prop a b c) (from_equal_span span span2 k.0) (from_equal key key2 k.1) (from_equal value value2 k.2)
   from_equal (assign_prop span key value) (assign_prop span2 key2 value2) h = let k = each_of_three (equal_span span span2) (equal key key2) (equal value value2) h in congr_three (λ a b c. assign_prop a b c) (from_equal_span span span2 k.0) (from_equal key key2 k.1) (from_equal value value2 k.2)
   from_equal (getter_prop span key body) (getter_prop span2 key2 body2) h = let k = each_of_three (equal_span span span2) (equal key key2) (equal body body2) h in congr_three (λ a b c. getter_prop a b c) (from_equal_span span span2 k.0) (from_equal key key2 k.1) (from_equal body body2 k.2)
   from_equal (setter_prop span key param_ body) (setter_prop span2 key2 param_2 body2) h = let k = each_of_four (equal_span span span2) (equal key key2) (equal param_ param_2) (equal body body2) h in congr_four (λ a b c d. setter_prop a b c d) (from_equal_span span span2 k.0) (from_equal key key2 k.1) (from_equal param_ param_2 k.2) (from_equal body body2 k.3)
   from_equal (method_prop span key function_) (method_prop span2 key2 function_2) h = let k = each_of_three (equal_span span span2) (equal key key2) (equal function_ function_2) h in congr_three (λ a b c. method_prop a b c) (from_equal_span span span2 k.0) (from_equal key key2 k.1) (from_equal function_ function_2 k.2)
   from_equal (str_lit span units raw) (str_lit span2 units2 raw2) h = let k = each_of_three (equal_span span span2) (bytes_eq units units2) (equal_text raw raw2) h in congr_three (λ a b c. str_lit a b c) (from_equal_span span span2 k.0) (from_bytes_eq units units2 k.1) (from_equal_text raw raw2 k.2)
-  from_equal (bool_lit span value) (bool_lit span2 value2) h = let k = each_of_two (equal_span span span2) (beq value value2) h in congr_two (λ a b. bool_lit a b) (from_equal_span span span2 k.0) (from_beq value value2 k.1)
+  from_equal (bool_lit span value) (bool_lit span2 value2) h = let k = and_parts (equal_span span span2) (beq value value2) h in congr_two (λ a b. bool_lit a b) (from_equal_span span span2 k.0) (from_beq value value2 k.1)
   from_equal (null_lit span) (null_lit span2) h = ap (λ x. null_lit x) (from_equal_span span span2 h)
   from_equal (number_lit span value raw) (number_lit span2 value2 raw2) h = let k = each_of_three (equal_span span span2) (equal_number value value2) (equal_text raw raw2) h in congr_three (λ a b c. number_lit a b c) (from_equal_span span span2 k.0) (from_equal_number value value2 k.1) (from_equal_text raw raw2 k.2)
   from_equal (big_int_lit span radix digits raw) (big_int_lit span2 radix2 digits2 raw2) h = let k = each_of_four (equal_span span span2) (nat_eq radix radix2) (bytes_eq digits digits2) (equal_text raw raw2) h in congr_four (λ a b c d. big_int_lit a b c d) (from_equal_span span span2 k.0) (from_nat_eq radix radix2 k.1) (from_bytes_eq digits digits2 k.2) (from_equal_text raw raw2 k.3)
   from_equal (regex_lit span exp flags) (regex_lit span2 exp2 flags2) h = let k = each_of_three (equal_span span span2) (bytes_eq exp exp2) (bytes_eq flags flags2) h in congr_three (λ a b c. regex_lit a b c) (from_equal_span span span2 k.0) (from_bytes_eq exp exp2 k.1) (from_bytes_eq flags flags2 k.2)
-  from_equal (binding_ident span id) (binding_ident span2 id2) h = let k = each_of_two (equal_span span span2) (equal id id2) h in congr_two (λ a b. binding_ident a b) (from_equal_span span span2 k.0) (from_equal id id2 k.1)
-  from_equal (array_pat span elems) (array_pat span2 elems2) h = let k = each_of_two (equal_span span span2) (equal_all elems elems2) h in congr_two (λ a b. array_pat a b) (from_equal_span span span2 k.0) (from_equal_all elems elems2 k.1)
+  from_equal (binding_ident span id) (binding_ident span2 id2) h = let k = and_parts (equal_span span span2) (equal id id2) h in congr_two (λ a b. binding_ident a b) (from_equal_span span span2 k.0) (from_equal id id2 k.1)
+  from_equal (array_pat span elems) (array_pat span2 elems2) h = let k = and_parts (equal_span span span2) (equal_all elems elems2) h in congr_two (λ a b. array_pat a b) (from_equal_span span span2 k.0) (from_equal_all elems elems2 k.1)
   from_equal (rest_pat span dot3_token arg) (rest_pat span2 dot3_token2 arg2) h = let k = each_of_three (equal_span span span2) (equal_span dot3_token dot3_token2) (equal arg arg2) h in congr_three (λ a b c. rest_pat a b c) (from_equal_span span span2 k.0) (from_equal_span dot3_token dot3_token2 k.1) (from_equal arg arg2 k.2)
-  from_equal (object_pat span props) (object_pat span2 props2) h = let k = each_of_two (equal_span span span2) (equal_all props props2) h in congr_two (λ a b. object_pat a b) (from_equal_span span span2 k.0) (from_equal_all props props2 k.1)
+  from_equal (object_pat span props) (object_pat span2 props2) h = let k = and_parts (equal_span span span2) (equal_all props props2) h in congr_two (λ a b. object_pat a b) (from_equal_span span span2 k.0) (from_equal_all props props2 k.1)
   from_equal (assign_pat span left right) (assign_pat span2 left2 right2) h = let k = each_of_three (equal_span span span2) (equal left left2) (equal right right2) h in congr_three (λ a b c. assign_pat a b c) (from_equal_span span span2 k.0) (from_equal left left2 k.1) (from_equal right right2 k.2)
   from_equal (key_value_pat_prop span key value) (key_value_pat_prop span2 key2 value2) h = let k = each_of_three (equal_span span span2) (equal key key2) (equal value value2) h in congr_three (λ a b c. key_value_pat_prop a b c) (from_equal_span span span2 k.0) (from_equal key key2 k.1) (from_equal value value2 k.2)
   from_equal (assign_pat_prop span key value) (assign_pat_prop span2 key2 value2) h = let k = each_of_three (equal_span span span2) (equal key key2) (equal value value2) h in congr_three (λ a b c. assign_pat_prop a b c) (from_equal_span span span2 k.0) (from_equal key key2 k.1) (from_equal value value2 k.2)
@@ -361,7 +352,8 @@ mutual
   from_equal_all : (ts us : Trees) → equal_all ts us ≡ true → ts ≡ us
   from_equal_all none none h = refl
   from_equal_all (more t ts) (more u us) h =
-      ap (λ x. more x ts) (from_equal t u (first (equal t u) (equal_all ts us) h)) ∙ ap (λ x. more u x) (from_equal_all ts us (rest (equal t u) (equal_all ts us) h))
+      let k = and_parts (equal t u) (equal_all ts us) h in
+      ap (λ x. more x ts) (from_equal t u k.0) ∙ ap (λ x. more u x) (from_equal_all ts us k.1)
   from_equal_all ts us h = no h
 
 -- the test says of two trees whether they are equal

@@ -2,17 +2,13 @@
 use Rattle.std.proofs.Common.{◌≡◌, ◌∙◌, ℕ, nat_eq, Bool, true, false, ◌&&◌, refl, ap}
 use Rattle.base_token.specs.declared.place.Span.{Span}
 use Rattle.tree_spec.specs.Tree.{Tree, Trees, bin_expr, member_expr, call_expr, tagged_tpl, tpl, opt_chain_expr, opt_call, list, if_stmt}
-use Rattle.std.proofs.Math.Bool.{beq}
+use Rattle.std.proofs.Math.Bool.{beq, and-false}
 use Rattle.tree_program_spec.specs.Same.{same}
 use Rattle.tree_same.proofs.Knots.{expr_knot, stmt_knot}
 use Rattle.tree_same.proofs.Mixed.{both_absent, absent_last, absent_first}
 use Rattle.tree_same.specs.Compared.{same_spellings}
 use Rattle.tree_same.proofs.Rules.{bin_expr_rule, call_expr_rule, if_stmt_rule, member_expr_rule, opt_call_rule, opt_chain_expr_rule}
 use Rattle.tree_same.proofs.Spellings.{tagged_tpl_rule}
-
-with_false : (b : Bool) → (b && false) ≡ false
-with_false true = refl
-with_false false = refl
 
 -- what stands right of a left part may be compared first
 swapped : (a b : Bool) → (a && b) ≡ (b && a)
@@ -67,6 +63,6 @@ if_stops s s2 t t2 c c2 a a2 h = if_stmt_rule s s2 t t2 c c2 a a2 ∙ ap (λ b. 
 
 pub if_differs : (s s2 : Span) (t t2 c c2 a a2 : Tree) → same c c2 ≡ false → same (if_stmt s t c a) (if_stmt s2 t2 c2 a2) ≡ false
 if_differs s s2 t t2 c c2 a a2 k =
-    if_stmt_rule s s2 t t2 c c2 a a2 ∙ (ap (λ b. same t t2 && (b && same a a2)) k ∙ with_false (same t t2))
+    if_stmt_rule s s2 t t2 c c2 a a2 ∙ (ap (λ b. same t t2 && (b && same a a2)) k ∙ and-false (same t t2))
 
 pub ruleset if_chain = (stmt_knot, if_goes, if_stops, if_differs, both_absent, absent_last, absent_first)

@@ -1,8 +1,9 @@
 -- Keys say the same where their strings do.
-use Rattle.std.proofs.Common.{◌≡◌, ◌∙◌, ℕ, nat_eq, Bool, true, false, ◌&&◌, List, Option, bytes_eq, refl, sym}
+use Rattle.std.proofs.Common.{◌≡◌, ◌∙◌, ℕ, nat_eq, true, false, List, Option, bytes_eq, refl, sym}
 use Rattle.std.specs.Bool.{one_answer}
 use Rattle.std.specs.Str.{chars}
 use Rattle.std.proofs.lemmas.Slice.Eq.{bytes_eq-Decides}
+use Rattle.std.proofs.Math.Bool.{and-true}
 use Rattle.base_token.specs.declared.place.Span.{Span}
 use Rattle.base_token.specs.Utf16.{utf16}
 use Rattle.base_number.specs.Numbers.{SpecNumber}
@@ -17,10 +18,6 @@ use Rattle.tree_same.specs.Compared.{same_keys}
 clash : {A : Type 0} → true ≡ false → A
 clash h = absurd cc
 
-and_true : (b : Bool) → (b && true) ≡ b
-and_true true = refl
-and_true false = refl
-
 bytes_eq_sym : (a b : List ℕ) → bytes_eq a b ≡ bytes_eq b a
 bytes_eq_sym a b =
     let d = bytes_eq-Decides b a in
@@ -28,15 +25,15 @@ bytes_eq_sym a b =
 
 pub words : (s s2 : Span) (a b : List ℕ) → same_keys (ident_name s a) (ident_name s2 b) ≡ bytes_eq (utf16 (chars a)) (utf16 (chars b))
 unfolding same_keys
-words s s2 a b = and_true (bytes_eq (utf16 (chars a)) (utf16 (chars b)))
+words s s2 a b = and-true (bytes_eq (utf16 (chars a)) (utf16 (chars b)))
 
 pub word_str : (s s2 : Span) (a u : List ℕ) (r : Option (List ℕ)) → same_keys (ident_name s a) (str_lit s2 u r) ≡ bytes_eq (utf16 (chars a)) u
 unfolding same_keys
-word_str s s2 a u r = and_true (bytes_eq (utf16 (chars a)) u)
+word_str s s2 a u r = and-true (bytes_eq (utf16 (chars a)) u)
 
 pub str_word : (s s2 : Span) (a u : List ℕ) (r : Option (List ℕ)) → same_keys (str_lit s2 u r) (ident_name s a) ≡ bytes_eq (utf16 (chars a)) u
 unfolding same_keys
-str_word s s2 a u r = and_true (bytes_eq u (utf16 (chars a))) ∙ bytes_eq_sym u (utf16 (chars a))
+str_word s s2 a u r = and-true (bytes_eq u (utf16 (chars a))) ∙ bytes_eq_sym u (utf16 (chars a))
 
 pub strs : (s s2 : Span) (u u2 : List ℕ) (r r2 : Option (List ℕ)) → same_keys (str_lit s u r) (str_lit s2 u2 r2) ≡ same (str_lit s u r) (str_lit s2 u2 r2)
 unfolding same same_keys

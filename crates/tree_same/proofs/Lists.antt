@@ -1,7 +1,7 @@
 -- Lists say the same where their elements do, one by one.
-use Rattle.std.proofs.Common.{◌≡◌, ◌∙◌, ◌==◌, ℕ, Bool, true, false, not, ◌&&◌, List, [], ◌∷◌, Option, bytes_eq, length, refl, sym, ap}
+use Rattle.std.proofs.Common.{◌≡◌, ◌∙◌, ◌==◌, ℕ, Bool, true, false, ◌&&◌, List, [], ◌∷◌, Option, bytes_eq, length, refl, sym, ap}
 use Rattle.std.proofs.Math.Dec.{eqb-suc-zero}
-use Rattle.std.proofs.Math.Bool.{beq}
+use Rattle.std.proofs.Math.Bool.{beq, and-false}
 use Rattle.base_token.specs.declared.place.Span.{Span}
 use Rattle.tree_spec.specs.Tree.{Tree, Trees, none, more, list, absent, tpl_element, trees_by}
 use Rattle.tree_program_spec.specs.Program.{line_ends}
@@ -92,20 +92,8 @@ texts_test = record {
 pub flags_differ : (x y : TplElement) → beq x.tail y.tail ≡ false → same_spelling x y ≡ false
 flags_differ x y h = ap (λ b. b && bytes_eq (line_ends x.raw) (line_ends y.raw)) h
 
-and_none : (b : Bool) → (b && false) ≡ false
-and_none true = refl
-and_none false = refl
-
 pub spellings_differ : (x y : TplElement) → bytes_eq (line_ends x.raw) (line_ends y.raw) ≡ false → same_spelling x y ≡ false
-spellings_differ x y h = ap (λ b. beq x.tail y.tail && b) h ∙ and_none (beq x.tail y.tail)
+spellings_differ x y h = ap (λ b. beq x.tail y.tail && b) h ∙ and-false (beq x.tail y.tail)
 
 pub texts_agree : (x y : TplElement) → beq x.tail y.tail ≡ true → bytes_eq (line_ends x.raw) (line_ends y.raw) ≡ true → same_spelling x y ≡ true
 texts_agree x y h k = ap (λ b. b && bytes_eq (line_ends x.raw) (line_ends y.raw)) h ∙ k
-
-pub from_not_true : (b : Bool) → not b ≡ true → b ≡ false
-from_not_true true h = sym h
-from_not_true false h = refl
-
-pub from_not_false : (b : Bool) → not b ≡ false → b ≡ true
-from_not_false true h = refl
-from_not_false false h = sym h

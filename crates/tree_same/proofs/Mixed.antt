@@ -1,5 +1,6 @@
 -- A child is not the same program as what may stand in its place beside it.
 use Rattle.std.proofs.Common.{◌≡◌, ◌∙◌, ℕ, nat_eq, Bool, true, false, if◌then◌else◌, refl, sym, ap}
+use Rattle.std.proofs.lemmas.Bool.{false_from_ne_true}
 use Rattle.base_token.specs.declared.place.Span.{Span}
 use Rattle.tree_spec.specs.Places.{no_place}
 use Rattle.tree_spec.specs.Tree.{Tree, Trees, absent, hole, super, import, var_decl, using_decl}
@@ -32,20 +33,15 @@ left_out_kept : (t : Tree) → is_left_out (program t) ≡ is_left_out t
 left_out_kept absent = refl
 left_out_kept t = refl
 
--- what is false unless it is true
-false_unless : (b : Bool) → (b ≡ true → ⊥) → b ≡ false
-false_unless true h = absurd (h refl)
-false_unless false h = refl
-
 module _ (test : Tree → Bool) (kept : (t : Tree) → test (program t) ≡ test t) (t u : Tree) where
   alike : same t u ≡ true → test t ≡ test u
   alike s = sym (kept t) ∙ (ap test ((same_decides t u).0 s) ∙ kept u)
 
   only_first : test t ≡ true → test u ≡ false → same t u ≡ false
-  only_first h k = false_unless (same t u) (λ s. clash (sym h ∙ (alike s ∙ k)))
+  only_first h k = false_from_ne_true (same t u) (λ s. clash (sym h ∙ (alike s ∙ k)))
 
   only_last : test t ≡ false → test u ≡ true → same t u ≡ false
-  only_last h k = false_unless (same t u) (λ s. clash (sym k ∙ (sym (alike s) ∙ h)))
+  only_last h k = false_from_ne_true (same t u) (λ s. clash (sym k ∙ (sym (alike s) ∙ h)))
 
 pub node_is_there : (t : Tree) → is_node t ≡ true → is_left_out t ≡ false
 node_is_there absent h = clash (sym h)

@@ -1,8 +1,8 @@
 -- Trees whose spelling counts, or a part of it, are the same program where their fields are.
-use Rattle.std.proofs.Common.{◌≡◌, ◌↔◌, ℕ, nat_eq, Bool, true, false, ◌&&◌, List, [], Option, Some, None, IsTrue, if◌then◌else◌, bytes_eq, refl, ap}
+use Rattle.std.proofs.Common.{◌≡◌, ◌↔◌, ℕ, nat_eq, Bool, true, false, ◌&&◌, List, [], Option, Some, None, IsTrue, if◌then◌else◌, bytes_eq, refl, ap, sym}
 use Rattle.std.specs.Bool.{one_answer}
 use Rattle.std.specs.Option.{is_some}
-use Rattle.std.proofs.Math.Bool.{beq}
+use Rattle.std.proofs.Math.Bool.{beq, and-true}
 use Rattle.base_token.specs.declared.place.Span.{Span}
 use Rattle.base_number.specs.Numbers.{SpecNumber}
 use Rattle.tree_spec.specs.Places.{no_place}
@@ -35,17 +35,13 @@ number_rule x s s2 a b r r2 h =
     let d = same_decides (number_lit s a r) (number_lit s2 b r2) in
     one_answer x (same (number_lit s a r) (number_lit s2 b r2)) h ((λ t. same_value (d.0 t)), λ e. d.1 (ap (λ n. number_lit no_place n None) e))
 
-with_true : (b : Bool) → (b && true) ≡ b
-with_true true = refl
-with_true false = refl
-
 pub str_lit_rule : (s s2 : Span) (u u2 : List ℕ) (r r2 : Option (List ℕ)) → same (str_lit s u r) (str_lit s2 u2 r2) ≡ bytes_eq u u2
 unfolding same
-str_lit_rule s s2 u u2 r r2 = with_true (bytes_eq u u2)
+str_lit_rule s s2 u u2 r r2 = and-true (bytes_eq u u2)
 
 pub big_int_lit_rule : (s s2 : Span) (n n2 : ℕ) (d d2 : List ℕ) (r r2 : Option (List ℕ)) → same (big_int_lit s n d r) (big_int_lit s2 n2 d2 r2) ≡ (nat_eq n n2 && bytes_eq d d2)
 unfolding same
-big_int_lit_rule s s2 n n2 d d2 r r2 = ap (λ b. nat_eq n n2 && b) (with_true (bytes_eq d d2))
+big_int_lit_rule s s2 n n2 d d2 r r2 = ap (λ b. nat_eq n n2 && b) (and-true (bytes_eq d d2))
 
 -- whether it is a string
 abbrev is_str : Tree → Bool
@@ -60,10 +56,6 @@ strict_plain : (t : Tree) → is_str t ≡ false → is_use_strict t ≡ false
 strict_plain (str_lit _ _ _) h = clash h
 strict_plain t h = refl
 
-and_true : (b : Bool) → b ≡ (b && true)
-and_true true = refl
-and_true false = refl
-
 and_false : (b : Bool) → (b && false) ≡ ((b && true) && false)
 and_false true = refl
 and_false false = refl
@@ -73,10 +65,10 @@ abbrev told : List ℕ → Bool → Tree
 told units strict = if strict then str_lit no_place units (Some []) else str_lit no_place units None
 
 strings : (u u2 : List ℕ) (x y : Bool) → equal (told u x) (told u2 y) ≡ ((bytes_eq u u2 && true) && beq x y)
-strings u u2 true true = and_true (bytes_eq u u2 && true)
+strings u u2 true true = sym (and-true (bytes_eq u u2 && true))
 strings u u2 true false = and_false (bytes_eq u u2)
 strings u u2 false true = and_false (bytes_eq u u2)
-strings u u2 false false = and_true (bytes_eq u u2 && true)
+strings u u2 false false = sym (and-true (bytes_eq u u2 && true))
 
 string_first : (u : List ℕ) (x : Bool) (t : Tree) → is_str t ≡ false → equal (told u x) (program t) ≡ false
 string_first u x (str_lit _ _ _) h = clash h
@@ -89,7 +81,7 @@ string_last u true t h = refl
 string_last u false t h = refl
 
 others : (t u : Tree) → is_str t ≡ false → is_str u ≡ false → equal (stated t (program t)) (stated u (program u)) ≡ (equal (program t) (program u) && beq (is_use_strict t) (is_use_strict u))
-others t u h k = rw (stated_plain t (program t) h) (rw (stated_plain u (program u) k) (rw (strict_plain t h) (rw (strict_plain u k) (and_true (equal (program t) (program u))))))
+others t u h k = rw (stated_plain t (program t) h) (rw (stated_plain u (program u) k) (rw (strict_plain t h) (rw (strict_plain u k) (sym (and-true (equal (program t) (program u)))))))
 
 after_string : (s : Span) (u : List ℕ) (r : Option (List ℕ)) (t : Tree) → equal (stated (str_lit s u r) (program (str_lit s u r))) (stated t (program t)) ≡ (equal (program (str_lit s u r)) (program t) && beq (is_use_strict (str_lit s u r)) (is_use_strict t))
 after_string s u r (str_lit s2 u2 r2) = strings u u2 (is_use_strict (str_lit s u r)) (is_use_strict (str_lit s2 u2 r2))

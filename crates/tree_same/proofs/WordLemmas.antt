@@ -4,7 +4,7 @@ use Rattle.std.specs.Bool.{one_answer}
 use Rattle.std.specs.Char.Escape.{encode_utf16}
 use Rattle.std.specs.Str.{IsUtf8, chars, encode_utf8_all}
 use Rattle.std.proofs.Math.Utf8.{scalar, scalars, scalar_cases}
-use Rattle.std.proofs.lemmas.Bool.{cases_Bool}
+use Rattle.std.proofs.lemmas.Bool.{cases_Bool, lt-ltb}
 use Rattle.std.proofs.lemmas.Bool.Decides.{nat_tests}
 use Rattle.std.proofs.lemmas.Slice.Eq.{bytes_eq-Decides}
 use Rattle.std.specs.Char.{encode_utf8}
@@ -115,9 +115,6 @@ utf8_rest bs rest c h e =
 pub units_rest : (bs rest : List ℕ) (c : ℕ) → IsUtf8 bs → bs ≡ encode_utf8 c ++ rest → utf16 (chars bs) ≡ encode_utf16 c ++ utf16 (chars rest)
 units_rest bs rest c h e = ap utf16 (chars_past_char bs rest c h e)
 
-pub one_small : (c : ℕ) → c < 65536 → encode_utf16 c ≡ c ∷ []
-one_small c h = one_unit c (grind (arith, nat_tests))
-
 pub two_large : (c : ℕ) → 65536 ≤ c → encode_utf16 c ≡ lead c ∷ trail c ∷ []
 two_large c h = two_units c (grind (arith, nat_tests))
 
@@ -133,8 +130,8 @@ past_pair c units rest (Some r) h k l = λ t. ap (λ (u : List ℕ). bytes_eq (u
 pub past_small : (c : ℕ) (units : List ℕ) (o : Option (Bor (List ℕ))) → c < 65536
     → MatchOption o ((t : List ℕ) → bytes_eq (c ∷ t) units ≡ false) (λ r. (t : List ℕ) → bytes_eq (c ∷ t) units ≡ bytes_eq t r.now)
     → MatchOption o ((t : List ℕ) → bytes_eq (encode_utf16 c ++ t) units ≡ false) (λ r. (t : List ℕ) → bytes_eq (encode_utf16 c ++ t) units ≡ bytes_eq t r.now)
-past_small c units None h l = λ t. ap (λ (u : List ℕ). bytes_eq (u ++ t) units) (one_small c h) ∙ l t
-past_small c units (Some r) h l = λ t. ap (λ (u : List ℕ). bytes_eq (u ++ t) units) (one_small c h) ∙ l t
+past_small c units None h l = λ t. ap (λ (u : List ℕ). bytes_eq (u ++ t) units) (one_unit c (lt-ltb c 65536 h)) ∙ l t
+past_small c units (Some r) h l = λ t. ap (λ (u : List ℕ). bytes_eq (u ++ t) units) (one_unit c (lt-ltb c 65536 h)) ∙ l t
 
 -- a text goes on with a character
 pub goes_on : (bs more rest : List ℕ) (c : ℕ) (b : Bool) → IsUtf8 bs → bs ≡ encode_utf8 c ++ more → bytes_eq (utf16 (chars bs)) rest ≡ b → bytes_eq (encode_utf16 c ++ utf16 (chars more)) rest ≡ b

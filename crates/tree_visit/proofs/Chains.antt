@@ -1,5 +1,8 @@
 -- A walk over a chain, by its links.
-use Rattle.std.proofs.Common.{◌≡◌, ◌+◌, ◌*◌, ◌-◌, ◌≤◌, ◌<◌, ℕ, zero, suc, arith, Bool, true, false, not, if◌then◌else◌, refl, sym, ap, ◌∙◌}
+use Rattle.std.proofs.Common.{◌≡◌, ◌+◌, ◌*◌, ◌-◌, ◌≤◌, ◌<◌, ℕ, zero, suc, arith, Bool, true, refl, sym, ap, ◌∙◌}
+use Rattle.std.proofs.lemmas.Bool.{cond-false, not-true}
+use Rattle.std.proofs.Math.Nat.{add-zero, add-suc, add-sub_of_le}
+use Rattle.std.proofs.Math.Numerals.{add-one}
 use Rattle.tree_spec.specs.Tree.{Tree, script, es_module, import_decl, export_decl, named_export, export_default_decl, export_default_expr, export_all, import_named_specifier, import_default_specifier, import_star_as_specifier, export_namespace_specifier, export_default_specifier, export_named_specifier, block_stmt, empty_stmt, debugger_stmt, with_stmt, return_stmt, labeled_stmt, break_stmt, continue_stmt, if_stmt, switch_stmt, switch_case, throw_stmt, try_stmt, catch_clause, while_stmt, do_while_stmt, for_stmt, for_in_stmt, for_of_stmt, expr_stmt, class_decl, fn_decl, var_decl, using_decl, var_declarator, function, param, decorator, class, constructor, class_method, private_method, class_prop, private_prop, static_block, auto_accessor, ident_name, computed_prop_name, private_name, this_expr, array_lit, object_lit, fn_expr, unary_expr, update_expr, bin_expr, assign_expr, member_expr, super_prop_expr, cond_expr, call_expr, new_expr, seq_expr, ident, tpl, tpl_element, tagged_tpl, arrow_expr, class_expr, yield_expr, meta_prop_expr, await_expr, paren_expr, opt_chain_expr, opt_call, super, import, invalid, expr_or_spread, spread_element, key_value_prop, assign_prop, getter_prop, setter_prop, method_prop, str_lit, bool_lit, null_lit, number_lit, big_int_lit, regex_lit, binding_ident, array_pat, rest_pat, object_pat, assign_pat, key_value_pat_prop, assign_pat_prop, expr_pat, invalid_pat, invalid_target, list, absent, hole}
 use Rattle.tree_spec.specs.Codes.{tree_size}
 use Rattle.tree_nodes.specs.View.{view_lit}
@@ -8,7 +11,7 @@ use Rattle.tree_nodes.specs.declared.literals.Lit.TheVariants as Lit
 use Rattle.tree_nodes.specs.Spines.{Chained, alternative, further_on, has_alternative, is_absent}
 use Rattle.tree_nodes.proofs.Spines.{chained_next, further_falls, further_next, none_chained, none_further, still_further}
 use Rattle.tree_visit.specs.Spine.Chains.{Linked, base_left, below, is_base, is_link, left_part}
-use Rattle.tree_visit.proofs.spine.Chains.{below_falls, callee_left, counted, further, inner_falls, inner_links, left_falls, no, none_more, one_link, one_more, outer_falls, outer_links, sum}
+use Rattle.tree_visit.proofs.spine.Chains.{below_falls, callee_left, counted, further, inner_falls, inner_links, left_falls, no, one_link, outer_falls, outer_links}
 use Rattle.tree_visit.specs.Walk.{Event, entered, left, walk_of, walk_of_all}
 use Rattle.tree_visit.specs.Spines.{before_alternative, entered_ifs, entered_link, entered_links, left_ifs, left_link, left_links, walk_of_base, walk_of_rest}
 
@@ -55,8 +58,8 @@ spine step (suc n) t s h = spine step n t s h.0 ∙ ap (λ x. left_links step n 
 halves : {S : Type 0} (step : Event → S → S) (a b : ℕ) (t : Tree) (s : S)
     → left_links step (a + b) t s ≡ left_links step a t (left_links step b (below a t) s)
 unfolding left_links
-halves step a zero t s = rw (none_more a) refl
-halves step a (suc b) t s = ap (λ n. left_links step n t s) (one_more a b) ∙ halves step a b t (left_link step (below (a + b) t) s)
+halves step a zero t s = rw (add-zero a) refl
+halves step a (suc b) t s = ap (λ n. left_links step n t s) (add-suc a b) ∙ halves step a b t (left_link step (below (a + b) t) s)
     ∙ ap (λ x. left_links step a t (left_links step b (below a t) (left_link step x s))) (further a b t)
 
 pub left_one : {S : Type 0} (step : Event → S → S) (t : Tree) (s : S) → left_links step 1 t s ≡ left_link step t s
@@ -65,7 +68,7 @@ left_one step t s = refl
 
 pub by_halves : {S : Type 0} (step : Event → S → S) (a n : ℕ) (t : Tree) (s : S) → a ≤ n
     → left_links step n t s ≡ left_links step a t (left_links step (n - a) (below a t) s)
-by_halves step a n t s h = ap (λ x. left_links step x t s) (sym (sum a n h)) ∙ halves step a (n - a) t s
+by_halves step a n t s h = ap (λ x. left_links step x t s) (sym (add-sub_of_le h)) ∙ halves step a (n - a) t s
 
 -- ---- what falls in a recursion by halves: one more than what falls in its links
 
@@ -94,10 +97,6 @@ linked_once t h = (tt, h)
 
 -- ---- alternatives
 
-other_way : {A : Type 0} (x : Bool) (a b : A) → not x ≡ true → (if x then a else b) ≡ b
-other_way false a b h = refl
-other_way true a b h = no h
-
 -- an `if` with an alternative is entered, gone over and left
 if_link : {S : Type 0} (step : Event → S → S) (t : Tree) (s : S) → has_alternative t ≡ true
     → walk_of step t s ≡ left step t (walk_of step (alternative t) (before_alternative step t (entered step t s)))
@@ -123,7 +122,7 @@ if_link step (return_stmt _ _) s h = no h
 if_link step (labeled_stmt _ _ _) s h = no h
 if_link step (break_stmt _ _) s h = no h
 if_link step (continue_stmt _ _) s h = no h
-if_link step (if_stmt p a b c) s h = ap (λ x. left step (if_stmt p a b c) (walk_of step x (before_alternative step (if_stmt p a b c) (entered step (if_stmt p a b c) s)))) (sym (other_way (is_absent c) (if_stmt p a b c) c h))
+if_link step (if_stmt p a b c) s h = ap (λ x. left step (if_stmt p a b c) (walk_of step x (before_alternative step (if_stmt p a b c) (entered step (if_stmt p a b c) s)))) (sym (cond-false (is_absent c) (if_stmt p a b c) c (not-true (is_absent c) h)))
 if_link step (switch_stmt _ _ _) s h = no h
 if_link step (switch_case _ _ _) s h = no h
 if_link step (throw_stmt _ _) s h = no h
@@ -220,8 +219,8 @@ if_spine step (suc n) t s h = if_spine step n t s h.0 ∙ ap (λ x. left_ifs ste
 if_halves : {S : Type 0} (step : Event → S → S) (a b : ℕ) (t : Tree) (s : S)
     → left_ifs step (a + b) t s ≡ left_ifs step a t (left_ifs step b (further_on a t) s)
 unfolding left_ifs
-if_halves step a zero t s = rw (none_more a) refl
-if_halves step a (suc b) t s = ap (λ n. left_ifs step n t s) (one_more a b) ∙ if_halves step a b t (left step (further_on (a + b) t) s)
+if_halves step a zero t s = rw (add-zero a) refl
+if_halves step a (suc b) t s = ap (λ n. left_ifs step n t s) (add-suc a b) ∙ if_halves step a b t (left step (further_on (a + b) t) s)
     ∙ ap (λ x. left_ifs step a t (left_ifs step b (further_on a t) (left step x s))) (still_further a b t)
 
 pub left_one_if : {S : Type 0} (step : Event → S → S) (t : Tree) (s : S) → left_ifs step 1 t s ≡ left step t s
@@ -230,17 +229,14 @@ left_one_if step t s = refl
 
 pub ifs_by_halves : {S : Type 0} (step : Event → S → S) (a n : ℕ) (t : Tree) (s : S) → a ≤ n
     → left_ifs step n t s ≡ left_ifs step a t (left_ifs step (n - a) (further_on a t) s)
-ifs_by_halves step a n t s h = ap (λ x. left_ifs step x t s) (sym (sum a n h)) ∙ if_halves step a (n - a) t s
+ifs_by_halves step a n t s h = ap (λ x. left_ifs step x t s) (sym (add-sub_of_le h)) ∙ if_halves step a (n - a) t s
 
 -- ---- one link more
-
-next : (n : ℕ) → n + 1 ≡ suc n
-next n = omega (arith)
 
 module _ {S : Type 0} (step : Event → S → S) where
   pub entered_next : (n : ℕ) (t : Tree) (s : S) → entered_links step (n + 1) t s ≡ entered_link step (below n t) (entered_links step n t s)
   unfolding entered_links
-  entered_next n t s = rw (next n) refl
+  entered_next n t s = rw (add-one n) refl
 
   pub none_entered : (t : Tree) (s : S) → entered_links step 0 t s ≡ s
   unfolding entered_links
@@ -252,7 +248,7 @@ module _ {S : Type 0} (step : Event → S → S) where
 
   pub ifs_next : (n : ℕ) (t : Tree) (s : S) → entered_ifs step (n + 1) t s ≡ before_alternative step (further_on n t) (entered step (further_on n t) (entered_ifs step n t s))
   unfolding entered_ifs
-  ifs_next n t s = rw (next n) refl
+  ifs_next n t s = rw (add-one n) refl
 
   pub no_ifs_entered : (t : Tree) (s : S) → entered_ifs step 0 t s ≡ s
   unfolding entered_ifs

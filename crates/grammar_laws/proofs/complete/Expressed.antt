@@ -24,7 +24,7 @@ use Rattle.grammar_laws.proofs.complete_rules.Functions.{key_found, function_fou
 use Rattle.grammar_laws.proofs.Shapes.{absent_is}
 
 module _ (inner : Inner Input) (c : Code) (lev : ℕ) (ts : Input) (k : List ℕ) (V : Tree × State Input → Type 0) (Q : Type 0) where
-  at_function : kind ts ≡ function_kind → Reads (from ts k) (function_expr_by lm inner c (from ts k) false (from ts k)) V Q → Reads (from ts k) (prefix_by lm inner c lev (from ts k)) V Q
+  at_function : kind ts ≡ function_kind → Reads (from ts k) (function_expr_by lm inner c (lo ts) false (from ts k)) V Q → Reads (from ts k) (prefix_by lm inner c lev (from ts k)) V Q
   unfolding prefix_by keyword_by
   at_function e y = rw e y
 
@@ -32,7 +32,7 @@ module _ (inner : Inner Input) (c : Code) (lev : ℕ) (ts : Input) (k : List ℕ
   unfolding prefix_by keyword_by
   at_class e y = rw e y
 
-  at_async : kind ts ≡ async_kind → barred c.context ts ≡ false → kind (rest ts) ≡ function_kind → brk (rest ts) ≡ false → barred c.context (rest ts) ≡ false → Reads (from ts k) (function_expr_by lm inner c (from ts k) true (from (rest ts) k)) V Q → Reads (from ts k) (prefix_by lm inner c lev (from ts k)) V Q
+  at_async : kind ts ≡ async_kind → barred c.context ts ≡ false → kind (rest ts) ≡ function_kind → brk (rest ts) ≡ false → barred c.context (rest ts) ≡ false → Reads (from ts k) (function_expr_by lm inner c (lo ts) true (from (rest ts) k)) V Q → Reads (from ts k) (prefix_by lm inner c lev (from ts k)) V Q
   unfolding word_by async_by
   at_async e b f n d y = named_word inner c lev ts k V Q (async_name c ts e b) (if_yes (eqb (kind ts) async_kind) _ _ V Q (eq-eqb (kind ts) async_kind e)
       (if_yes (((kind (rest ts) == function_kind) && not (brk (rest ts))) && not (barred c.context (rest ts))) _ _ V Q (and_from ((kind (rest ts) == function_kind) && not (brk (rest ts))) _ (and_from (kind (rest ts) == function_kind) _ (eq-eqb (kind (rest ts)) function_kind f) (ap not n)) (ap not d)) y))
@@ -58,9 +58,9 @@ module _ (z : Nested) (p : Bool) (c : Code) (ts : Input) (k : List ℕ) (r : Inp
 
   pub function_read : (lev : ℕ) (s : Span) (x f : Tree) → Within z.Covered (fn_expr s x f) → Produces (fn_expr s x f) (coded p c) ts r → Reads (from ts k) (prefix_by lm z.inner c lev (from ts k)) (Is (fn_expr s x f) r) (z.depth < within z.reach (fn_expr s x f))
   function_read lev s x (function t ps ds b g false) w h = let y = function_expressed z p c s x t ps ds b g false ts r k w h in
-      at_function z.inner c lev ts k _ _ (ap (λ (d : Input). kind d) y.1 ∙ y.2) (subst (λ (d : Input). Reads (from d k) (function_expr_by lm z.inner c (from ts k) false (from d k)) (Is (fn_expr s x (function t ps ds b g false)) r) (z.depth < within z.reach (function t ps ds b g false))) (sym y.1) (y.4 k))
+      at_function z.inner c lev ts k _ _ (ap (λ (d : Input). kind d) y.1 ∙ y.2) (subst (λ (d : Input). Reads (from d k) (function_expr_by lm z.inner c (lo ts) false (from d k)) (Is (fn_expr s x (function t ps ds b g false)) r) (z.depth < within z.reach (function t ps ds b g false))) (sym y.1) (y.4 k))
   function_read lev s x (function t ps ds b g true) w h = let y = function_expressed z p c s x t ps ds b g true ts r k w h in
-      at_async z.inner c lev ts k _ _ y.1.0.0 y.1.0.1 (ap (λ (d : Input). kind d) y.1.0.3 ∙ y.2) (ap (λ (d : Input). brk d) y.1.0.3 ∙ y.1.1) (ap (λ (d : Input). barred c.context d) y.1.0.3 ∙ y.3) (onto ts y.0 k (λ d. function_expr_by lm z.inner c (from ts k) true d) _ _ y.1.0.3 (y.4 k))
+      at_async z.inner c lev ts k _ _ y.1.0.0 y.1.0.1 (ap (λ (d : Input). kind d) y.1.0.3 ∙ y.2) (ap (λ (d : Input). brk d) y.1.0.3 ∙ y.1.1) (ap (λ (d : Input). barred c.context d) y.1.0.3 ∙ y.3) (onto ts y.0 k (λ d. function_expr_by lm z.inner c (lo ts) true d) _ _ y.1.0.3 (y.4 k))
   function_read lev s x _ w h = absurd h
 
   -- ---- classes

@@ -138,7 +138,7 @@ params_names p c (more x xs) ts r k = and_from (binds_names x) _ (bound_names x 
 -- an arrow's body, and what it is read as
 pub record Body_read (inner : Inner Input) (c : Code) (i : Bool) (e : Tree) (m n r : Input) (P : Type 0) : Type 0 where
   pub arrow : arrowed m ≡ true
-  pub found : (start : State Input) (ps : List Tree) (h : List ℕ) → Reads (from m h) (arrow_by lm inner c start i ps (from m h)) (Is (arrow_expr (span (lo start.source) r.last) (pack ps) e i) r) P
+  pub found : (start : State Input) (ps : List Tree) (h : List ℕ) → Reads (from m h) (arrow_by lm inner c (lo start.source) i ps (from m h)) (Is (arrow_expr (span (lo start.source) r.last) (pack ps) e i) r) P
 
 -- an expression, and statements in braces
 pub expression_body : (inner : Inner Input) (c : Code) (i : Bool) (e : Tree) (m n r : Input) (P : Type 0) → arrowed m ≡ true → rest m ≡ n → (kind n ≡ left_brace_kind → ⊥) → ((h : List ℕ) → Reads (from n h) (inner.expr (in_arrow i c) 2 (from n h)) (Is e r) P) → Body_read inner c i e m n r P
@@ -159,14 +159,14 @@ block_body inner c i e m n r P a q b y = record {
 
 module _ (inner : Inner Input) (c : Code) (lev : ℕ) (low : lev ≤ assignment_level) (ts : Input) (k : List ℕ) where
   -- after the parameters
-  arrow_body : (i : Bool) (ps : Trees) (s : Span) (e : Tree) (m n r : Input) (j : List ℕ) (P : Type 0) {Q : Type 0} → Body_read inner c i e m n r P → (P → Q) → s ≡ span (lo ts) r.last → Reads (from m j) (arrow_by lm inner c (from ts k) i (unpack ps) (from m j)) (Is (arrow_expr s ps e i) r) Q
+  arrow_body : (i : Bool) (ps : Trees) (s : Span) (e : Tree) (m n r : Input) (j : List ℕ) (P : Type 0) {Q : Type 0} → Body_read inner c i e m n r P → (P → Q) → s ≡ span (lo ts) r.last → Reads (from m j) (arrow_by lm inner c (lo ts) i (unpack ps) (from m j)) (Is (arrow_expr s ps e i) r) Q
   arrow_body i ps s e m n r j P y f p = reads_deep f (reads_map _ (λ z v. (v.0 ∙ (ap (λ (w : Span). arrow_expr w (pack (unpack ps)) e i) (sym p) ∙ ap (λ ys. arrow_expr s ys e i) (pack_unpack ps)), v.1)) (y.found (from ts k) (unpack ps) j))
 
   ident_arrow : (q : Span) (x : List ℕ) (s : Span) (e : Tree) (m n r : Input) (P : Type 0) {Q : Type 0} → rest ts ≡ m → q ≡ span (lo ts) m.last → Body_read inner c false e m n r P → (P → Q) → s ≡ span (lo ts) r.last
-      → Reads (from m k) (ident_end lm inner c lev (from ts k) x (from m k)) (Is (arrow_expr s (more (binding_ident q (ident q x)) none) e false) r) Q
+      → Reads (from m k) (ident_end lm inner c lev (first_span ts) x (from m k)) (Is (arrow_expr s (more (binding_ident q (ident q x)) none) e false) r) Q
   unfolding ident_end
   ident_arrow q x s e m n r P {Q = Q} o sp y f p = if_yes (arrows_at lm inner lev (from m k)) _ _ _ _ (and_from (arrowed m) _ y.arrow (le-leb lev assignment_level low))
-      (subst (λ (w : Span). Reads (from m k) (arrow_by lm inner c (from ts k) false (binding_ident (first_span ts) (ident (first_span ts) x) ∷ []) (from m k)) (Is (arrow_expr s (more (binding_ident w (ident w x)) none) e false) r) Q) (first_at ts m q o sp)
+      (subst (λ (w : Span). Reads (from m k) (arrow_by lm inner c (lo ts) false (binding_ident (first_span ts) (ident (first_span ts) x) ∷ []) (from m k)) (Is (arrow_expr s (more (binding_ident w (ident w x)) none) e false) r) Q) (first_at ts m q o sp)
       (arrow_body false (more (binding_ident (first_span ts) (ident (first_span ts) x)) none) s e m n r k P y f p))
 
   arrow_kind_at : (m : Input) → arrowed m ≡ true → kind m ≡ arrow_kind
@@ -181,7 +181,7 @@ module _ (inner : Inner Input) (c : Code) (lev : ℕ) (low : lev ≤ assignment_
       (if_no (((kind (rest ts) == function_kind) && not (brk (rest ts))) && not (barred c.context (rest ts))) _ _ _ _ (and_left _ _ (and_left (kind (rest ts) == function_kind) _ (no function_kind refl)))
       (if_no ((is_word (kind (rest ts)) && (not (no_name c.context (kind (rest ts))) && not (barred c.context (rest ts)))) && ((not (brk (rest ts)) && (kind2 (rest ts) == arrow_kind) && not (brk2 (rest ts))) && leb lev assignment_level)) _ _ _ _ (and_left _ _ (and_left (is_word (kind (rest ts))) _ no_word))
       (if_no ((kind (rest ts) == left_paren_kind) && not (brk (rest ts))) _ _ _ _ (and_left (kind (rest ts) == left_paren_kind) _ (no left_paren_kind refl))
-      (onto ts m k (λ z. ident_end lm inner c lev (from ts k) (text ts) z) _ _ o (subst (λ (u : List ℕ). Reads (from m k) (ident_end lm inner c lev (from ts k) u (from m k)) (Is (arrow_expr s (more (binding_ident q (ident q x)) none) e false) r) Q) (sym t) (ident_arrow q x s e m n r P o sp y f p)))))))
+      (onto ts m k (λ z. ident_end lm inner c lev (first_span ts) (text ts) z) _ _ o (subst (λ (u : List ℕ). Reads (from m k) (ident_end lm inner c lev (first_span ts) u (from m k)) (Is (arrow_expr s (more (binding_ident q (ident q x)) none) e false) r) Q) (sym t) (ident_arrow q x s e m n r P o sp y f p)))))))
       (λ (w : kind ts ≡ async_kind → ⊥). if_no (eqb (kind ts) async_kind) _ _ _ _ (ne_eqb (kind ts) async_kind w) (then_name c ts m x k _ _ Q is t o (ident_arrow q x s e m n r P o sp y f p)))
       (cases_eq (kind ts) async_kind))
     where
@@ -203,9 +203,9 @@ module _ (inner : Inner Input) (c : Code) (lev : ℕ) (low : lev ≤ assignment_
   heads ps o y v b a = and_from (arrows_at lm inner lev y.1) _ (and_from (arrowed y.1.source) _ (subst (λ (x : Input). arrowed x ≡ true) (sym v.source) a) (le-leb lev assignment_level low)) (ap (λ x. is_read x) (params_read ps o y v b))
 
   after_params : (i : Bool) (ps : Trees) (s : Span) (e : Tree) (o n r : Input) (P : Type 0) {Q : Type 0} (y : Elements × State Input) → Covered_list false (unpack ps) o y → all_bind ps ≡ true → Body_read inner c i e o n r P → (P → Q) → s ≡ span (lo ts) r.last
-      → Reads y.1 (placed (bound lm y.1) (params_of lm inner y.1.commas y.0) >>= λ xs. arrow_by lm inner c (from ts k) i xs y.1) (Is (arrow_expr s ps e i) r) Q
+      → Reads y.1 (placed (bound lm y.1) (params_of lm inner y.1.commas y.0) >>= λ xs. arrow_by lm inner c (lo ts) i xs y.1) (Is (arrow_expr s ps e i) r) Q
   after_params i ps s e o n r P {Q = Q} y v b w f p = rw (params_read ps o y v b)
-      (subst (λ (u : Input). Reads (from u y.1.commas) (arrow_by lm inner c (from ts k) i (unpack ps) (from u y.1.commas)) (Is (arrow_expr s ps e i) r) Q) (sym v.source) (arrow_body i ps s e o n r y.1.commas P w f p))
+      (subst (λ (u : Input). Reads (from u y.1.commas) (arrow_by lm inner c (lo ts) i (unpack ps) (from u y.1.commas)) (Is (arrow_expr s ps e i) r) Q) (sym v.source) (arrow_body i ps s e o n r y.1.commas P w f p))
 
   pub arrow_paren : (ps : Trees) (s : Span) (e : Tree) (m o n r : Input) (P R : Type 0) {Q : Type 0} → kind ts ≡ left_paren_kind → rest ts ≡ m → Reads (from m k) (elements_by lm inner (with_in c) false right_paren_kind (from m k)) (Covered_list false (unpack ps) o) R → (R → Q) → all_bind ps ≡ true
       → Body_read inner c false e o n r P → (P → Q) → s ≡ span (lo ts) r.last → Reads (from ts k) (prefix_by lm inner c lev (from ts k)) (Is (arrow_expr s ps e false) r) Q
@@ -237,10 +237,10 @@ module _ (inner : Inner Input) (c : Code) (lev : ℕ) (low : lev ≤ assignment_
   -- what follows the word `async`
   abbrev async_rest : Input → Result (Tree × State Input) Fault
   async_rest i =
-      cond (((kind i == function_kind) && not (brk i)) && not (barred c.context i)) (function_expr_by lm inner c (from ts k) true (from i k))
+      cond (((kind i == function_kind) && not (brk i)) && not (barred c.context i)) (function_expr_by lm inner c (lo ts) true (from i k))
       (cond ((is_word (kind i) && (not (no_name c.context (kind i)) && not (barred c.context i))) && ((not (brk i) && (kind2 i == arrow_kind) && not (brk2 i)) && leb lev assignment_level))
-      (name lm c (from i k) >>= λ n. arrow_by lm inner c (from ts k) true (binding_ident (first_span i) (ident (first_span i) n.0) ∷ []) n.1)
-      (cond ((kind i == left_paren_kind) && not (brk i)) (async_group lm inner c lev (from ts k) (from i k)) (ident_end lm inner c lev (from ts k) (text ts) (from i k))))
+      (name lm c (from i k) >>= λ n. arrow_by lm inner c (lo ts) true (binding_ident (first_span i) (ident (first_span i) n.0) ∷ []) n.1)
+      (cond ((kind i == left_paren_kind) && not (brk i)) (async_group lm inner c lev (first_span ts) (text ts) (from i k)) (ident_end lm inner c lev (first_span ts) (text ts) (from i k))))
 
   pub async_bare : (q : Span) (x : List ℕ) (s : Span) (e : Tree) (m o n r : Input) (P : Type 0) {Q : Type 0} → kind ts ≡ async_kind → barred c.context ts ≡ false → rest ts ≡ m → brk m ≡ false → IsName c m → text m ≡ x → rest m ≡ o → q ≡ span (lo m) o.last → Body_read inner c true e o n r P → (P → Q) → s ≡ span (lo ts) r.last
       → Reads (from ts k) (prefix_by lm inner c lev (from ts k)) (Is (arrow_expr s (more (binding_ident q (ident q x)) none) e true) r) Q
@@ -249,7 +249,7 @@ module _ (inner : Inner Input) (c : Code) (lev : ℕ) (low : lev ≤ assignment_
       (onto_all (if_no (((kind m == function_kind) && not (brk m)) && not (barred c.context m)) _ _ _ _ (and_left _ _ (and_left (kind m == function_kind) _ (ne_eqb (kind m) function_kind (λ i. true≢false (sym (ap always_reserved i) ∙ (or_parts (always_reserved (kind m)) _ is.1).0)))))
       (if_yes ((is_word (kind m) && (not (no_name c.context (kind m)) && not (barred c.context m))) && ((not (brk m) && (kind2 m == arrow_kind) && not (brk2 m)) && leb lev assignment_level)) _ _ _ _
       (and_from _ _ (named c m k is) (and_from _ _ (all (not (brk m)) (kind2 m == arrow_kind) (not (brk2 m)) (ap not nb) two three) (le-leb lev assignment_level low)))
-      (then_name c m o x k _ _ Q is tx u (subst (λ (i : Span). Reads (from o k) (arrow_by lm inner c (from ts k) true (binding_ident (first_span m) (ident (first_span m) x) ∷ []) (from o k)) (Is (arrow_expr s (more (binding_ident i (ident i x)) none) e true) r) Q) (first_at m o q u sp)
+      (then_name c m o x k _ _ Q is tx u (subst (λ (i : Span). Reads (from o k) (arrow_by lm inner c (lo ts) true (binding_ident (first_span m) (ident (first_span m) x) ∷ []) (from o k)) (Is (arrow_expr s (more (binding_ident i (ident i x)) none) e true) r) Q) (first_at m o q u sp)
       (arrow_body true (more (binding_ident (first_span m) (ident (first_span m) x)) none) s e o n r k P w f p)))))))
     where
       all : (a b d : Bool) → a ≡ true → b ≡ true → d ≡ true → (a && b && d) ≡ true

@@ -119,7 +119,7 @@ module _ (z : Nested) (p : Bool) (c : Code) (i : has_in c ≡ true) where
 
   module _ (start : Input) (i0 : List ℕ) (st : Bool) (r : Input) (V : Tree × State Input → Type 0) (Q : Type 0) where
     -- a key that stands first
-    keyed : (x : Tree) (m y : Input) (j : List ℕ) → (is_key x || is_private x) ≡ true → Produces x (coded p c) m y → Plain st m y → Reads (from m j) (field_or_method lm z.inner c (from start i0) st (from m j)) V Q → Reads (from m j) (member_rest lm z.inner c (from start i0) st (from m j)) V Q
+    keyed : (x : Tree) (m y : Input) (j : List ℕ) → (is_key x || is_private x) ≡ true → Produces x (coded p c) m y → Plain st m y → Reads (from m j) (field_or_method lm z.inner c (lo start) st (from m j)) V Q → Reads (from m j) (member_rest lm z.inner c (lo start) st (from m j)) V Q
     unfolding member_rest
     keyed x m y j k h pl w = let o = any_key_starts x (coded p c) m y k h in
         if_no (kind m == mul_kind) _ _ V Q (no_kind starts_key (kind m) mul_kind o.0 refl)
@@ -145,7 +145,7 @@ module _ (z : Nested) (p : Bool) (c : Code) (i : has_in c ≡ true) where
 
     -- a generator, from its star or its key on
     starred : (g a : Bool) (x : Tree) (m y : Input) (j : List ℕ) → Star g (coded p c) m y → (is_key x || is_private x) ≡ true → (n : Input) → Within z.Covered x → Produces x (coded p c) y n → (z.depth < within z.reach x → Q)
-        → ((l : List ℕ) → Reads (from n l) (class_method_by lm z.inner c (from start i0) st g a x (from n l)) V Q) → Reads (from m j) (generator_member lm z.inner c (from start i0) st a (from m j)) V Q
+        → ((l : List ℕ) → Reads (from n l) (class_method_by lm z.inner c (lo start) st g a x (from n l)) V Q) → Reads (from m j) (generator_member lm z.inner c (lo start) st a (from m j)) V Q
     unfolding generator_member
     starred g a x m y j t k n w h f v = then_is (star lm z.inner (from m j)) _ g y ⊥ _ _ (star_found z p c g m y j ⊥ t (no_kind starts_key (kind y) mul_kind (any_key_starts x (coded p c) y n k h).0 refl)) (λ u. absurd u)
         (λ l. then_is (class_key lm z.inner c (from y l)) _ x n (z.depth < within z.reach x) _ _ (any_key_found z p c x y n l k w h) f v)
@@ -153,13 +153,13 @@ module _ (z : Nested) (p : Bool) (c : Code) (i : has_in c ≡ true) where
   -- a method that is no getter and no setter, and the constructor, from the parameters on
   module _ (start : Input) (i0 : List ℕ) (st : Bool) (s : Span) (x : Tree) where
     method_end : (t : Span) (ps ds : Trees) (b : Tree) (g a : Bool) (n r : Input) (j : List ℕ) → (constructs x && (not st && (not g && not a))) ≡ false → Within z.Covered (function t ps ds b g a) → Produces (function t ps ds b g a) (setting false (coded p c)) n r → t ≡ span (lo start) r.last → s ≡ span (lo start) r.last
-        → Reads (from n j) (class_method_by lm z.inner c (from start i0) st g a x (from n j)) (Is (method_tree lm z.inner s x (function t ps ds b g a) plain_method st) r) (z.depth < within z.reach (function t ps ds b g a))
+        → Reads (from n j) (class_method_by lm z.inner c (lo start) st g a x (from n j)) (Is (method_tree lm z.inner s x (function t ps ds b g a) plain_method st) r) (z.depth < within z.reach (function t ps ds b g a))
     unfolding class_method_by
     method_end t ps ds b g a n r j k w h e v = then_is (function_by lm z.inner c (lo start) g a (from n j)) _ (function t ps ds b g a) r (z.depth < within z.reach (function t ps ds b g a)) _ _ (function_found z p c t ps ds b g a (lo start) n r j w h e) (λ u. u)
         (λ l. if_no (constructs x && (not st && (not g && not a))) _ _ _ _ k (here (ap (λ (d : Span). method_tree lm z.inner d x (function t ps ds b g a) plain_method st) (sym v))))
 
     constructor_end : (t : Span) (ps : Trees) (q : Span) (ss : Trees) (n y r : Input) (j : List ℕ) → (constructs x && (not st && true)) ≡ true → Withins z.Covered ps → z.Covered (block_stmt q ss) → Parameters (in_body false false (coded p c)) (children ps) n y → Body (in_body false false (coded p c)) q (children ss) y r → s ≡ span (lo start) r.last
-        → Reads (from n j) (class_method_by lm z.inner c (from start i0) st false false x (from n j)) (Is (constructor s x ps (block_stmt q ss)) r) (z.depth < max (withins z.reach ps) (z.reach (block_stmt q ss)))
+        → Reads (from n j) (class_method_by lm z.inner c (lo start) st false false x (from n j)) (Is (constructor s x ps (block_stmt q ss)) r) (z.depth < max (withins z.reach ps) (z.reach (block_stmt q ss)))
     unfolding class_method_by function_by
     constructor_end t ps q ss n y r j k gp gb hp hb v =
         then_is (function_by lm z.inner c (lo start) false false (from n j)) _ (function (span (lo start) r.last) ps none (block_stmt q ss) false false) r (z.depth < max (withins z.reach ps) (z.reach (block_stmt q ss))) _ _
@@ -168,12 +168,12 @@ module _ (z : Nested) (p : Bool) (c : Code) (i : has_in c ≡ true) where
 
   -- what stands after a key
   as_method : (start : Input) (i0 : List ℕ) (st : Bool) (x : Tree) (m y r : Input) (j : List ℕ) (V : Tree × State Input → Type 0) (Q : Type 0) → (is_key x || is_private x) ≡ true → Within z.Covered x → Produces x (coded p c) m y → kind y ≡ left_paren_kind → (z.depth < within z.reach x → Q)
-      → ((l : List ℕ) → Reads (from y l) (class_method_by lm z.inner c (from start i0) st false false x (from y l)) V Q) → Reads (from m j) (field_or_method lm z.inner c (from start i0) st (from m j)) V Q
+      → ((l : List ℕ) → Reads (from y l) (class_method_by lm z.inner c (lo start) st false false x (from y l)) V Q) → Reads (from m j) (field_or_method lm z.inner c (lo start) st (from m j)) V Q
   unfolding field_or_method
   as_method start i0 st x m y r j V Q k w h e f v = then_is (class_key lm z.inner c (from m j)) _ x y (z.depth < within z.reach x) _ _ (any_key_found z p c x m y j k w h) f (λ l. if_yes (kind y == left_paren_kind) _ _ _ _ (eq-eqb (kind y) left_paren_kind e) (v l))
 
   as_field : (start : Input) (i0 : List ℕ) (st : Bool) (s : Span) (x v : Tree) (m y r : Input) (j : List ℕ) → (is_key x || is_private x) ≡ true → Within z.Covered x → z.Covered v → Produces x (coded p c) m y → Initial (coded p c) (field_end st (kind m)) (child v (λ y. Produces v y)) y r → s ≡ span (lo start) r.last
-      → Reads (from m j) (field_or_method lm z.inner c (from start i0) st (from m j)) (Is (if is_private x then private_prop s x v st none else class_prop s x v st none) r) (z.depth < max (within z.reach x) (z.reach v))
+      → Reads (from m j) (field_or_method lm z.inner c (lo start) st (from m j)) (Is (if is_private x then private_prop s x v st none else class_prop s x v st none) r) (z.depth < max (within z.reach x) (z.reach v))
   unfolding field_or_method
   as_field start i0 st s x v m y r j k w g h t e = then_is (class_key lm z.inner c (from m j)) _ x y (z.depth < within z.reach x) _ _ (any_key_found z p c x m y j k w h) (λ u. omega arith)
       (λ l. if_no (kind y == left_paren_kind) _ _ _ _ (plain_field p c st v m y r t).1 (then_is (field_value lm z.inner c (field_end st (kind m)) (from y l)) _ v r (z.depth < z.reach v) _ _ (value_found (field_end st (kind m)) v y r l g (λ d. (ended_field p c st m y r d).1.value) t) (λ u. omega arith)
@@ -191,7 +191,7 @@ module _ (z : Nested) (p : Bool) (c : Code) (i : has_in c ≡ true) where
   record Rested (ts : Input) (k : List ℕ) (st : Bool) (x : Tree) (m r : Input) (P : Type 0) : Type 0 where
     first : (starts_key (kind m) || (kind m == mul_kind)) ≡ true
     apart : st ≡ false → (l : List ℕ) → starts_static lm z.inner (from m l) ≡ false
-    read : (j : List ℕ) → Reads (from m j) (member_rest lm z.inner c (from ts k) st (from m j)) (Is x r) P
+    read : (j : List ℕ) → Reads (from m j) (member_rest lm z.inner c (lo ts) st (from m j)) (Is x r) P
 
   no_static : (m : Input) (n : ℕ) (l : List ℕ) → kind m ≡ n → eqb n static_kind ≡ false → starts_static lm z.inner (from m l) ≡ false
   no_static m n l e q = and_left (kind m == static_kind) _ (subst (λ (n : ℕ). eqb n static_kind ≡ false) (sym e) q)
@@ -201,7 +201,7 @@ module _ (z : Nested) (p : Bool) (c : Code) (i : has_in c ≡ true) where
   plain_static st m y l s (inl e) w = ⊎_elim (λ q. and_right (kind m == static_kind) _ (subst (λ (d : Input). (starts_key (kind d) || ((kind d == mul_kind) || (kind d == left_brace_kind))) ≡ false) (sym e.1) (w.static_ s (eqb-true (kind m) static_kind q)))) (λ q. and_left (kind m == static_kind) _ q)
       (cases_Bool (kind m == static_kind))
 
-  key_rested : (ts : Input) (k : List ℕ) (st : Bool) (t x : Tree) (m y r : Input) (P : Type 0) → (is_key x || is_private x) ≡ true → Produces x (coded p c) m y → Plain st m y → ((j : List ℕ) → Reads (from m j) (field_or_method lm z.inner c (from ts k) st (from m j)) (Is t r) P) → Rested ts k st t m r P
+  key_rested : (ts : Input) (k : List ℕ) (st : Bool) (t x : Tree) (m y r : Input) (P : Type 0) → (is_key x || is_private x) ≡ true → Produces x (coded p c) m y → Plain st m y → ((j : List ℕ) → Reads (from m j) (field_or_method lm z.inner c (lo ts) st (from m j)) (Is t r) P) → Rested ts k st t m r P
   key_rested ts k st t x m y r P i h w v = let o = any_key_starts x (coded p c) m y i h in
       record { first = or_left (starts_key (kind m)) _ o.0; apart = λ s l. plain_static st m y l s o.1 w; read = λ j. keyed ts k st r (Is t r) P x m y j i h w (v j) }
 
@@ -210,13 +210,13 @@ module _ (z : Nested) (p : Bool) (c : Code) (i : has_in c ≡ true) where
   generator_first false x w y n s i h = subst (λ (d : Input). (starts_key (kind d) || (kind d == mul_kind)) ≡ true) (sym s) (or_left (starts_key (kind y)) _ (any_key_starts x (coded p c) y n i h).0)
 
   async_rest : (ts : Input) (k : List ℕ) (st : Bool) (m w : Input) (j : List ℕ) (V : Tree × State Input → Type 0) (Q : Type 0) → kind m ≡ async_kind → rest m ≡ w → brk w ≡ false → (starts_key (kind w) || (kind w == mul_kind)) ≡ true
-      → Reads (from w j) (generator_member lm z.inner c (from ts k) st true (from w j)) V Q → Reads (from m j) (member_rest lm z.inner c (from ts k) st (from m j)) V Q
+      → Reads (from w j) (generator_member lm z.inner c (lo ts) st true (from w j)) V Q → Reads (from m j) (member_rest lm z.inner c (lo ts) st (from m j)) V Q
   unfolding member_rest
   async_rest ts k st m w j V Q e q b f v = if_no (kind m == mul_kind) _ _ V Q (subst (λ (n : ℕ). eqb n mul_kind ≡ false) (sym e) refl)
       (if_yes (is_async_head lm z.inner (from m j)) _ _ V Q (and_from (kind m == async_kind) _ (eq-eqb (kind m) async_kind e) (subst (λ (d : Input). ((starts_key (kind d) || (kind d == mul_kind)) && not (brk d)) ≡ true) (sym q) (and_from _ _ f (ap not b))))
-      (onto m w j (λ d. generator_member lm z.inner c (from ts k) st true d) V Q q v))
+      (onto m w j (λ d. generator_member lm z.inner c (lo ts) st true d) V Q q v))
 
-  star_rest : (ts : Input) (k : List ℕ) (st : Bool) (m : Input) (j : List ℕ) (V : Tree × State Input → Type 0) (Q : Type 0) → kind m ≡ mul_kind → Reads (from m j) (generator_member lm z.inner c (from ts k) st false (from m j)) V Q → Reads (from m j) (member_rest lm z.inner c (from ts k) st (from m j)) V Q
+  star_rest : (ts : Input) (k : List ℕ) (st : Bool) (m : Input) (j : List ℕ) (V : Tree × State Input → Type 0) (Q : Type 0) → kind m ≡ mul_kind → Reads (from m j) (generator_member lm z.inner c (lo ts) st false (from m j)) V Q → Reads (from m j) (member_rest lm z.inner c (lo ts) st (from m j)) V Q
   unfolding member_rest
   star_rest ts k st m j V Q e v = if_yes (kind m == mul_kind) _ _ V Q (eq-eqb (kind m) mul_kind e) v
 
@@ -249,7 +249,7 @@ module _ (z : Nested) (p : Bool) (c : Code) (i : has_in c ≡ true) where
     -- ---- getters, setters and accessors
 
     getter_read : (t q : Span) (ds ss : Trees) (m y n r : Input) (j : List ℕ) → z.Covered (block_stmt q ss) → kind m ≡ get_kind → rest m ≡ y → Produces x (coded p c) y n → Produces (function t none ds (block_stmt q ss) false false) (setting false (coded p c)) n r → t ≡ span (lo ts) r.last → s ≡ span (lo ts) r.last
-        → Reads (from m j) (member_rest lm z.inner c (from ts k) st (from m j)) (Is (method_tree lm z.inner s x (function t none ds (block_stmt q ss) false false) get_kind st) r) (z.depth < max (within z.reach x) (z.reach (block_stmt q ss)))
+        → Reads (from m j) (member_rest lm z.inner c (lo ts) st (from m j)) (Is (method_tree lm z.inner s x (function t none ds (block_stmt q ss) false false) get_kind st) r) (z.depth < max (within z.reach x) (z.reach (block_stmt q ss)))
     unfolding member_rest class_getter
     getter_read t q ds ss m y n r j g e u h o d v = if_no (kind m == mul_kind) _ _ _ _ (is_no mul_kind refl) (if_no (is_async_head lm z.inner (from m j)) _ _ _ _ (and_left (kind m == async_kind) _ (is_no async_kind refl))
         (if_yes ((kind m == get_kind) && starts_key (kind2 m)) _ _ _ _ (and_from (kind m == get_kind) _ (eq-eqb (kind m) get_kind e) (subst (λ (d : Input). starts_key (kind d) ≡ true) (sym u) (any_key_starts x (coded p c) y n i1 h).0))
@@ -262,7 +262,7 @@ module _ (z : Nested) (p : Bool) (c : Code) (i : has_in c ≡ true) where
         is_no n w = subst (λ (d : ℕ). eqb d n ≡ false) (sym e) w
 
     setter_read : (t q : Span) (a : Tree) (ds ss : Trees) (m y n r : Input) (j : List ℕ) → Within z.Covered a → z.Covered (block_stmt q ss) → kind m ≡ set_kind → rest m ≡ y → Produces x (coded p c) y n → Produces (function t (more a none) ds (block_stmt q ss) false false) (setting true (coded p c)) n r → t ≡ span (lo ts) r.last → s ≡ span (lo ts) r.last
-        → Reads (from m j) (member_rest lm z.inner c (from ts k) st (from m j)) (Is (method_tree lm z.inner s x (function t (more a none) ds (block_stmt q ss) false false) set_kind st) r) (z.depth < max (within z.reach x) (max (within z.reach a) (z.reach (block_stmt q ss))))
+        → Reads (from m j) (member_rest lm z.inner c (lo ts) st (from m j)) (Is (method_tree lm z.inner s x (function t (more a none) ds (block_stmt q ss) false false) set_kind st) r) (z.depth < max (within z.reach x) (max (within z.reach a) (z.reach (block_stmt q ss))))
     unfolding member_rest class_setter
     setter_read t q a ds ss m y n r j ga g e u h o d v = if_no (kind m == mul_kind) _ _ _ _ (is_no mul_kind refl) (if_no (is_async_head lm z.inner (from m j)) _ _ _ _ (and_left (kind m == async_kind) _ (is_no async_kind refl))
         (if_no ((kind m == get_kind) && starts_key (kind2 m)) _ _ _ _ (and_left (kind m == get_kind) _ (is_no get_kind refl))
@@ -277,7 +277,7 @@ module _ (z : Nested) (p : Bool) (c : Code) (i : has_in c ≡ true) where
         is_no n w = subst (λ (d : ℕ). eqb d n ≡ false) (sym e) w
 
     accessor_read : (v : Tree) (ds : Trees) (m y n r : Input) (j : List ℕ) → z.Covered v → c.syntax.auto_accessors ≡ true → IsEmpty (children ds) → kind m ≡ accessor_kind → rest m ≡ y → brk y ≡ false → Produces x (coded p c) y n → Initial (coded p c) key_end (child v (λ y. Produces v y)) n r → s ≡ span (lo ts) r.last
-        → Reads (from m j) (member_rest lm z.inner c (from ts k) st (from m j)) (Is (auto_accessor s x v st ds) r) (z.depth < max (within z.reach x) (z.reach v))
+        → Reads (from m j) (member_rest lm z.inner c (lo ts) st (from m j)) (Is (auto_accessor s x v st ds) r) (z.depth < max (within z.reach x) (z.reach v))
     unfolding member_rest accessor_by
     accessor_read v ds m y n r j g on em e u b h t w = if_no (kind m == mul_kind) _ _ _ _ (is_no mul_kind refl) (if_no (is_async_head lm z.inner (from m j)) _ _ _ _ (and_left (kind m == async_kind) _ (is_no async_kind refl))
         (if_no ((kind m == get_kind) && starts_key (kind2 m)) _ _ _ _ (and_left (kind m == get_kind) _ (is_no get_kind refl)) (if_no ((kind m == set_kind) && starts_key (kind2 m)) _ _ _ _ (and_left (kind m == set_kind) _ (is_no set_kind refl))
@@ -346,7 +346,7 @@ module _ (z : Nested) (p : Bool) (c : Code) (i : has_in c ≡ true) where
   unfolding member_step
   unstatic_step x acc ts m r k P e w = if_no (kind ts == right_brace_kind) _ _ _ _ (no right_brace_kind refl refl) (if_no (kind ts == semicolon_kind) _ _ _ _ (no semicolon_kind refl refl)
       (if_no (starts_static lm z.inner (from ts k)) _ _ _ _ (subst (λ (d : Input). starts_static lm z.inner (from d k) ≡ false) (sym e) (w.apart refl k))
-      (then_is (member_rest lm z.inner c (from ts k) false (from ts k)) _ x r P _ _ (subst (λ (d : Input). Reads (from d k) (member_rest lm z.inner c (from ts k) false (from d k)) (Is x r) P) (sym e) (w.read k)) (λ u. u) (λ l. here refl))))
+      (then_is (member_rest lm z.inner c (lo ts) false (from ts k)) _ x r P _ _ (subst (λ (d : Input). Reads (from d k) (member_rest lm z.inner c (lo ts) false (from d k)) (Is x r) P) (sym e) (w.read k)) (λ u. u) (λ l. here refl))))
     where
       no : (n : ℕ) → starts_key n ≡ false → eqb n mul_kind ≡ false → eqb (kind ts) n ≡ false
       no n a b = subst (λ (d : Input). eqb (kind d) n ≡ false) (sym e) (no_kind (λ k. starts_key k || (k == mul_kind)) (kind m) n w.first (or_from (starts_key n) _ a b))
@@ -374,7 +374,7 @@ module _ (z : Nested) (p : Bool) (c : Code) (i : has_in c ≡ true) where
   block_step s q ss acc ts r k g h = if_no (kind ts == right_brace_kind) _ _ _ _ (no right_brace_kind refl) (if_no (kind ts == semicolon_kind) _ _ _ _ (no semicolon_kind refl)
       (if_yes (starts_static lm z.inner (from ts k)) _ _ _ _ (and_from (kind ts == static_kind) _ (eq-eqb (kind ts) static_kind h.2.0) (subst (λ (d : Input). (starts_key (kind d) || ((kind d == mul_kind) || (kind d == left_brace_kind))) ≡ true) (sym h.2.3) (subst (λ (n : ℕ). (starts_key n || ((n == mul_kind) || (n == left_brace_kind))) ≡ true) (sym h.3.0) refl)))
       (then_is _ _ (static_block s (block_stmt q ss)) r (z.depth < most z.reach ss) _ _ (then_word c static_kind ts h.0 k _ _ _ h.2.0 h.2.1 h.2.3 (if_yes (kind h.0 == left_brace_kind) _ _ _ _ (eq-eqb (kind h.0) left_brace_kind h.3.0)
-      (then_past h.0 h.1 k (block_rest lm z.inner (in_static c) (from h.0 k)) _ (block_stmt q ss) r (z.depth < most z.reach ss) _ _ h.3.2 (rest_found z p (in_static c) h.0 k q ss h.1 r k g h.4 h.5) (λ u. u) (λ j. built (λ y. static_block y (block_stmt q ss)) s ts r j _ h.6)))) (λ u. u) (λ l. here refl))))
+      (then_past h.0 h.1 k (block_rest lm z.inner (in_static c) (lo h.0)) _ (block_stmt q ss) r (z.depth < most z.reach ss) _ _ h.3.2 (rest_found z p (in_static c) h.0 k q ss h.1 r k g h.4 h.5) (λ u. u) (λ j. built (λ y. static_block y (block_stmt q ss)) s ts r j _ h.6)))) (λ u. u) (λ l. here refl))))
     where
       no : (n : ℕ) → eqb static_kind n ≡ false → eqb (kind ts) n ≡ false
       no n a = subst (λ (d : ℕ). eqb d n ≡ false) (sym h.2.0) a

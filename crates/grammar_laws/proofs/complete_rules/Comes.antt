@@ -225,21 +225,21 @@ module _ (z d : ℕ) (ih : (e : ℕ) → Comes z e) (deep : Deep z d) (F : Behin
   inner = readers lm d
 
   abbrev On : Tree → Input → Type 0
-  On t r = (j : List ℕ) → Loops (loop_step lm inner c l (from ts k)) t r j W (suc d < n)
+  On t r = (j : List ℕ) → Loops (loop_step lm inner c l (lo ts)) t r j W (suc d < n)
 
   abbrev Ours : Type 0
   Ours = Reads (from ts k) (expr_by lm inner c l (from ts k)) W (suc d < n)
 
   begin : (t : Tree) (r : Input) → eqb (kind ts) hash_kind ≡ false → l ≤ level t → Reads (from ts k) (prefix_by lm inner c l (from ts k)) (Is t r) (suc d < n) → On t r → Ours
   unfolding expr_by expr_from loop_by
-  begin t r e le y K = if_no (eqb (kind ts) hash_kind) _ _ W _ e (then_is (prefix_by lm inner c l (from ts k)) _ t r _ W _ y (λ u. u) (λ j. if_yes (leb l (level t)) _ _ W _ (le-leb l (level t) le) (looped (loop_step lm inner c l (from ts k)) t r j W _ (K j))))
+  begin t r e le y K = if_no (eqb (kind ts) hash_kind) _ _ W _ e (then_is (prefix_by lm inner c l (from ts k)) _ t r _ W _ y (λ u. u) (λ j. if_yes (leb l (level t)) _ _ W _ (le-leb l (level t) le) (looped (loop_step lm inner c l (lo ts)) t r j W _ (K j))))
 
   after : (t a : Tree) (m r : Input) → size a < z → Covered a → Produces a (coded p c) ts m → Follow c (ends a) (tail a) m → Bare a ts m → reach a ≤ n → l ≤ level a → l ≤ goes_expr c (ends a) m → len r < len m
-      → ((j : List ℕ) → Reads (from m j) (step_by lm inner c (from ts k) a (from m j)) (Is t r) (suc d < n)) → On t r → Ours
+      → ((j : List ℕ) → Reads (from m j) (step_by lm inner c (lo ts) a (from m j)) (Is t r) (suc d < n)) → On t r → Ours
   unfolding loop_step
   after t a m r sz g h fo ba le la lp cu y K = firmly z d (ih d) a p c l ts m k W n sz g h one la fo ba (record { calm = λ _ _. goes_calm c (ends a) m (omega arith) }) le
-      (λ j. loop_on (loop_step lm inner c l (from ts k)) a t m r j (suc d < n) W _ (if_no (ltb (goes_expr c (ends a) m) l) _ _ _ _ (le-ltb (goes_expr c (ends a) m) l lp)
-      (then_is (step_by lm inner c (from ts k) a (from m j)) _ t r (suc d < n) _ _ (y j) (λ u. u) (λ i. here refl))) (λ u. u) cu K)
+      (λ j. loop_on (loop_step lm inner c l (lo ts)) a t m r j (suc d < n) W _ (if_no (ltb (goes_expr c (ends a) m) l) _ _ _ _ (le-ltb (goes_expr c (ends a) m) l lp)
+      (then_is (step_by lm inner c (lo ts) a (from m j)) _ t r (suc d < n) _ _ (y j) (λ u. u) (λ i. here refl))) (λ u. u) cu K)
 
   not_hash : (k : ℕ) → kind ts ≡ k → eqb k hash_kind ≡ false → eqb (kind ts) hash_kind ≡ false
   not_hash k e h = subst (λ (k : ℕ). eqb k hash_kind ≡ false) (sym e) h
@@ -254,13 +254,13 @@ module _ (z d : ℕ) (ih : (e : ℕ) → Comes z e) (deep : Deep z d) (F : Behin
   update_no_hash op e u = by_update op (λ o. kind ts ≡ o → eqb (kind ts) hash_kind ≡ false) u (λ e. not_hash 20 e refl) (λ e. not_hash 21 e refl) e
 
   -- the loop goes on from what has been read
-  arrived : (t : Tree) (r : Input) → l ≤ level t → On t r → (j : List ℕ) → Reads (from r j) (loop_by lm inner c l (from ts k) t (from r j)) W (suc d < n)
+  arrived : (t : Tree) (r : Input) → l ≤ level t → On t r → (j : List ℕ) → Reads (from r j) (loop_by lm inner c l (lo ts) t (from r j)) W (suc d < n)
   unfolding loop_by
-  arrived t r le K j = if_yes (leb l (level t)) _ _ W _ (le-leb l (level t) le) (looped (loop_step lm inner c l (from ts k)) t r j W _ (K j))
+  arrived t r le K j = if_yes (leb l (level t)) _ _ W _ (le-leb l (level t) le) (looped (loop_step lm inner c l (lo ts)) t r j W _ (K j))
 
   -- what hangs on an object: a member, a call, a template
   hangs : (t o : Tree) (m r : Input) (x v : ℕ) → size o < z → Covered o → Produces o (coded p c) ts m → 19 ≤ level o → Bare o ts m → reach o ≤ n → l ≤ level o → kind m ≡ x → quiet x ≡ true → goes_expr c 0 m ≡ v → v ≤ 20 → l ≤ v → len r < len m
-      → ((j : List ℕ) → Reads (from m j) (step_by lm inner c (from ts k) o (from m j)) (Is t r) (suc d < n)) → On t r → Ours
+      → ((j : List ℕ) → Reads (from m j) (step_by lm inner c (lo ts) o (from m j)) (Is t r) (suc d < n)) → On t r → Ours
   hangs t o m r x v sz g h lv ba ne lo e qu gv v20 lg cu y K =
       let z0 : ends o ≡ 0 = ends_high o (omega (arith, lv)) in
       let gm : goes_expr c (ends o) m ≡ v = subst (λ (e : ℕ). goes_expr c e m ≡ v) (sym z0) gv in
@@ -271,7 +271,7 @@ module _ (z d : ℕ) (ih : (e : ℕ) → Comes z e) (deep : Deep z d) (F : Behin
   comes_member : (s : Span) (o x : Tree) (r : Input) → size o < z → Covered o → Member (coded p c) s (child o (λ y. Produces o y)) (λ a b. Dotted true (coded p c) (child x (λ y. Produces x y)) a b) ts r → l ≤ level (member_expr s o x) → reach o ≤ n → On (member_expr s o x) r → Ours
   comes_member s o x r sz g h le ne K =
       hangs (member_expr s o x) o h.0 r 4 20 sz g h.2.1 h.2.0 (bare_by o ts h.0 (λ e. omega (arith, e, h.3.1.0))) ne (omega (arith, le)) h.3.1.0 refl (goes_dot c h.0 h.3.1.0) (omega arith) (omega (arith, le)) (dotted_cut true x (coded p c) h.0 r h.3)
-      (λ j. step_member inner c (from ts k) o h.0 j _ _ h.3.1.0 h.2.0 (subst (λ (b : Bool). Reads (from h.0 j) (member_by lm inner c (from ts k) o (from h.0 j)) (Is (on_chain lm inner b s (member_expr s o x)) r) (suc d < n)) h.1 (dotted_member inner c ts k o h.0 j (coded p c) s x r h.3 h.4))) K
+      (λ j. step_member inner c (from ts k) o h.0 j _ _ h.3.1.0 h.2.0 (subst (λ (b : Bool). Reads (from h.0 j) (member_by lm inner c (lo ts) o (from h.0 j)) (Is (on_chain lm inner b s (member_expr s o x)) r) (suc d < n)) h.1 (dotted_member inner c ts k o h.0 j (coded p c) s x r h.3 h.4))) K
 
   -- a template after a tag
   comes_tagged : (s q : Span) (o : Tree) (es qs : Trees) (r : Input) → size o < z → sizes es < z → Covered o → CoveredAll es → TaggedTemplate (coded p c) s (child o (λ y. Produces o y)) q (children es) (children qs) ts r → l ≤ level (tagged_tpl s o (tpl q es qs)) → reach o ≤ n → suc (reaches es) ≤ n
@@ -283,14 +283,14 @@ module _ (z d : ℕ) (ih : (e : ℕ) → Comes z e) (deep : Deep z d) (F : Behin
       (λ i. here (ap (λ (y : Span). tagged_tpl y o (tpl q es qs)) (sym h.4))))) K
 
   -- chains: what `?.` goes on with, and what goes on a chain
-  comes_optional : (t o : Tree) (m a r : Input) → size o < z → Covered o → Expr 19 (coded p c) (child o (λ y. Produces o y)) ts m → Optional (coded p c) m a → l ≤ 19 → reach o ≤ n → len r < len a → ((j : List ℕ) → Reads (from a j) (chain_by lm inner c (from ts k) o (from a j)) (Is t r) (suc d < n)) → On t r → Ours
+  comes_optional : (t o : Tree) (m a r : Input) → size o < z → Covered o → Expr 19 (coded p c) (child o (λ y. Produces o y)) ts m → Optional (coded p c) m a → l ≤ 19 → reach o ≤ n → len r < len a → ((j : List ℕ) → Reads (from a j) (chain_by lm inner c (lo ts) o (from a j)) (Is t r) (suc d < n)) → On t r → Ours
   comes_optional t o m a r sz g h q le ne cu y K =
       let d0 : kind2 m ≡ 4 = ap (λ (x : Input). kind x) q.1.2 ∙ q.2.0 in
       hangs t o m r 19 19 sz g h.1 h.0 (bare_by o ts m (λ e. omega (arith, e, q.1.0))) ne (omega (arith, h.0)) q.1.0 refl (goes_optional c m q.1.0 d0) (omega arith) le (omega (arith, cu, takes 19 m q.0 q.1.0 (omega arith) q.1.2, takes 4 q.0 a q.2.0 (omega arith) q.2.2))
-      (λ j. step_chain inner c (from ts k) o m j _ _ q.1.0 d0 h.0 (subst (λ (x : Input). Reads (from x j) (chain_by lm inner c (from ts k) o (from x j)) (Is t r) (suc d < n)) (sym (ap (λ (x : Input). rest x) q.1.2 ∙ q.2.2)) (y j))) K
+      (λ j. step_chain inner c (from ts k) o m j _ _ q.1.0 d0 h.0 (subst (λ (x : Input). Reads (from x j) (chain_by lm inner c (lo ts) o (from x j)) (Is t r) (suc d < n)) (sym (ap (λ (x : Input). rest x) q.1.2 ∙ q.2.2)) (y j))) K
 
   comes_chained : (t o : Tree) (x v : ℕ) (m r : Input) → size o < z → Covered o → is_chain o ≡ true → Produces o (coded p c) ts m → l ≤ 19 → reach o ≤ n → kind m ≡ x → quiet x ≡ true → goes_expr c 0 m ≡ v → 19 ≤ v → v ≤ 20 → len r < len m
-      → ((j : List ℕ) → Reads (from m j) (step_by lm inner c (from ts k) o (from m j)) (Is t r) (suc d < n)) → On t r → Ours
+      → ((j : List ℕ) → Reads (from m j) (step_by lm inner c (lo ts) o (from m j)) (Is t r) (suc d < n)) → On t r → Ours
   comes_chained t o x v m r sz g ch h le ne e qu gv v19 v20 cu y K = let lv = chain_level o ch in hangs t o m r x v sz g h (omega (arith, lv)) (bare_chain o ts m ch) ne (omega (arith, lv)) e qu gv v20 (omega arith) cu y K
 
   -- what stands in brackets
@@ -303,43 +303,43 @@ module _ (z d : ℕ) (ih : (e : ℕ) → Comes z e) (deep : Deep z d) (F : Behin
   optional_index : (s t b : Span) (o e : Tree) (r : Input) → ChainMember (coded p c) s true t (child o (λ y. Produces o y)) (λ m n. Bracketed 1 (coded p c) b (child e (λ y. Produces e y)) m n) (λ m n. Bracketed 1 (coded p c) b (child e (λ y. Produces e y)) m n) ts r
       → size o < z → size e < z → Covered o → Covered e → l ≤ 19 → max (reach o) (suc (reach e)) ≤ n → On (opt_chain_expr s true (member_expr t o (computed_prop_name b e))) r → Ours
   optional_index s t b o e r h so se go ge le ne K = comes_optional (opt_chain_expr s true (member_expr t o (computed_prop_name b e))) o h.0 h.1 r so go h.2 h.3 le (omega arith) (bracket_cut 1 (coded p c) b e h.1 r (omega arith) h.4)
-      (λ j. subst (λ (y : Span). Reads (from h.1 j) (chain_by lm inner c (from ts k) o (from h.1 j)) (Is (opt_chain_expr s true (member_expr y o (computed_prop_name b e))) r) (suc d < n)) (h.5 ∙ sym h.6)
+      (λ j. subst (λ (y : Span). Reads (from h.1 j) (chain_by lm inner c (lo ts) o (from h.1 j)) (Is (opt_chain_expr s true (member_expr y o (computed_prop_name b e))) r) (suc d < n)) (h.5 ∙ sym h.6)
       (chain_index inner c ts k o h.1 j s b e h.4.0 h.4.1 r (d < reach e) h.4.2.0 h.4.2.2 (inside e h.4.0 h.4.1 se ge h.4.3 h.4.4.0) (λ u. omega arith) h.4.4.0 h.4.4.2 h.4.5 h.5)) K
 
   optional_name : (s t : Span) (o x : Tree) (A : Input → Input → Type 0) (r : Input) → ChainMember (coded p c) s true t (child o (λ y. Produces o y)) A (λ m n. AccessedName true (coded p c) (child x (λ y. Produces x y)) m n) ts r
       → size o < z → Covered o → l ≤ 19 → reach o ≤ n → On (opt_chain_expr s true (member_expr t o x)) r → Ours
   optional_name s t o x A r h so go le ne K = let w = accessed_starts x (coded p c) h.1 r h.4 in
       comes_optional (opt_chain_expr s true (member_expr t o x)) o h.0 h.1 r so go h.2 h.3 le ne (accessed_cut true x (coded p c) h.1 r h.4)
-      (λ j. subst (λ (y : Span). Reads (from h.1 j) (chain_by lm inner c (from ts k) o (from h.1 j)) (Is (opt_chain_expr s true (member_expr y o x)) r) (suc d < n)) (h.5 ∙ sym h.6) (chain_name inner c ts k o h.1 j (coded p c) s x r h.4 h.5 w.0 w.1)) K
+      (λ j. subst (λ (y : Span). Reads (from h.1 j) (chain_by lm inner c (lo ts) o (from h.1 j)) (Is (opt_chain_expr s true (member_expr y o x)) r) (suc d < n)) (h.5 ∙ sym h.6) (chain_name inner c ts k o h.1 j (coded p c) s x r h.4 h.5 w.0 w.1)) K
 
   optional_call : (s t : Span) (f : Tree) (xs : Trees) (r : Input) → ChainCall (coded p c) s true t (child f (λ y. Produces f y)) (children xs) ts r → size f < z → sizes xs < z → Covered f → CoveredAll xs → l ≤ 19 → max (reach f) (suc (reaches xs)) ≤ n → On (opt_chain_expr s true (opt_call t f xs)) r → Ours
   optional_call s t f xs r h so se go ge le ne K =
       comes_optional (opt_chain_expr s true (opt_call t f xs)) f h.0 h.1 r so go h.2 h.3 le (omega arith) (arguments_cut (coded p c) xs h.1 r h.4)
-      (λ j. subst (λ (y : Span). Reads (from h.1 j) (chain_by lm inner c (from ts k) f (from h.1 j)) (Is (opt_chain_expr s true (opt_call y f xs)) r) (suc d < n)) (h.5 ∙ sym h.6)
+      (λ j. subst (λ (y : Span). Reads (from h.1 j) (chain_by lm inner c (lo ts) f (from h.1 j)) (Is (opt_chain_expr s true (opt_call y f xs)) r) (suc d < n)) (h.5 ∙ sym h.6)
       (chain_call inner c ts k f h.1 j s xs h.4.0 r (d < reaches xs) h.4.1.0 h.4.1.2 (args xs h.4.0 r se ge h.4.2) (λ u. omega arith) h.5)) K
 
   chained_index : (s t b : Span) (o e : Tree) (A : Input → Input → Type 0) (r : Input) → ChainMember (coded p c) s false t (child o (λ y. Produces o y)) (λ m n. Bracketed 1 (coded p c) b (child e (λ y. Produces e y)) m n) A ts r
       → size o < z → size e < z → Covered o → Covered e → l ≤ 19 → max (reach o) (suc (reach e)) ≤ n → On (opt_chain_expr s false (member_expr t o (computed_prop_name b e))) r → Ours
   chained_index s t b o e A r h so se go ge le ne K = let lv = chain_level o h.1 in
       comes_chained (opt_chain_expr s false (member_expr t o (computed_prop_name b e))) o 9 20 h.0 r so go h.1 h.2 le (omega arith) h.3.2.0 refl (goes_bracket c h.0 h.3.2.0) (omega arith) (omega arith) (bracket_cut 1 (coded p c) b e h.0 r (omega arith) h.3)
-      (λ j. step_index inner c (from ts k) o h.0 j _ _ h.3.2.0 (omega (arith, lv)) (subst (λ (y : Span). Reads (from h.0 j) (index_by lm inner c (from ts k) o (from h.0 j)) (Is (opt_chain_expr s false (member_expr y o (computed_prop_name b e))) r) (suc d < n)) (h.4 ∙ sym h.5)
-      (subst (λ (q : Bool). Reads (from h.0 j) (index_by lm inner c (from ts k) o (from h.0 j)) (Is (on_chain lm inner q s (member_expr s o (computed_prop_name b e))) r) (suc d < n)) h.1
+      (λ j. step_index inner c (from ts k) o h.0 j _ _ h.3.2.0 (omega (arith, lv)) (subst (λ (y : Span). Reads (from h.0 j) (index_by lm inner c (lo ts) o (from h.0 j)) (Is (opt_chain_expr s false (member_expr y o (computed_prop_name b e))) r) (suc d < n)) (h.4 ∙ sym h.5)
+      (subst (λ (q : Bool). Reads (from h.0 j) (index_by lm inner c (lo ts) o (from h.0 j)) (Is (on_chain lm inner q s (member_expr s o (computed_prop_name b e))) r) (suc d < n)) h.1
       (indexed inner c ts k o h.0 j s b e h.3.0 h.3.1 r (d < reach e) h.3.2.2 (inside e h.3.0 h.3.1 se ge h.3.3 h.3.4.0) (λ u. omega arith) h.3.4.0 h.3.4.2 h.3.5 h.4)))) K
 
   chained_name : (s t : Span) (o x : Tree) (A : Input → Input → Type 0) (r : Input) → ChainMember (coded p c) s false t (child o (λ y. Produces o y)) (λ m n. Dotted true (coded p c) (child x (λ y. Produces x y)) m n) A ts r
       → size o < z → Covered o → l ≤ 19 → reach o ≤ n → On (opt_chain_expr s false (member_expr t o x)) r → Ours
   chained_name s t o x A r h so go le ne K = let lv = chain_level o h.1 in
       comes_chained (opt_chain_expr s false (member_expr t o x)) o 4 20 h.0 r so go h.1 h.2 le ne h.3.1.0 refl (goes_dot c h.0 h.3.1.0) (omega arith) (omega arith) (dotted_cut true x (coded p c) h.0 r h.3)
-      (λ j. step_member inner c (from ts k) o h.0 j _ _ h.3.1.0 (omega (arith, lv)) (subst (λ (y : Span). Reads (from h.0 j) (member_by lm inner c (from ts k) o (from h.0 j)) (Is (opt_chain_expr s false (member_expr y o x)) r) (suc d < n)) (h.4 ∙ sym h.5)
-      (subst (λ (q : Bool). Reads (from h.0 j) (member_by lm inner c (from ts k) o (from h.0 j)) (Is (on_chain lm inner q s (member_expr s o x)) r) (suc d < n)) h.1 (dotted_member inner c ts k o h.0 j (coded p c) s x r h.3 h.4)))) K
+      (λ j. step_member inner c (from ts k) o h.0 j _ _ h.3.1.0 (omega (arith, lv)) (subst (λ (y : Span). Reads (from h.0 j) (member_by lm inner c (lo ts) o (from h.0 j)) (Is (opt_chain_expr s false (member_expr y o x)) r) (suc d < n)) (h.4 ∙ sym h.5)
+      (subst (λ (q : Bool). Reads (from h.0 j) (member_by lm inner c (lo ts) o (from h.0 j)) (Is (on_chain lm inner q s (member_expr s o x)) r) (suc d < n)) h.1 (dotted_member inner c ts k o h.0 j (coded p c) s x r h.3 h.4)))) K
 
   chained_call : (s t : Span) (f : Tree) (xs : Trees) (r : Input) → ChainCall (coded p c) s false t (child f (λ y. Produces f y)) (children xs) ts r → size f < z → sizes xs < z → Covered f → CoveredAll xs → l ≤ 19 → max (reach f) (suc (reaches xs)) ≤ n → On (opt_chain_expr s false (opt_call t f xs)) r → Ours
   chained_call s t f xs r h so se go ge le ne K = let lv = chain_level f h.1 in
       comes_chained (opt_chain_expr s false (opt_call t f xs)) f 7 19 h.0 r so go h.1 h.2 le (omega arith) h.3.1.0 refl (paren_goes c h.0 h.3.1.0) (omega arith) (omega arith)
       (arguments_cut (coded p c) xs h.0 r h.3)
-      (λ j. step_call inner c (from ts k) f h.0 j _ _ h.3.1.0 (omega (arith, lv)) (subst (λ (y : Span). Reads (from h.0 j) (call_by lm inner c (from ts k) f (from h.0 j)) (Is (opt_chain_expr s false (opt_call y f xs)) r) (suc d < n)) (h.4 ∙ sym h.5)
-      (subst (λ (ys : Trees). Reads (from h.0 j) (call_by lm inner c (from ts k) f (from h.0 j)) (Is (opt_chain_expr s false (opt_call s f ys)) r) (suc d < n)) (pack_unpack xs)
-      (subst (λ (y : Tree). Reads (from h.0 j) (call_by lm inner c (from ts k) f (from h.0 j)) (Is y r) (suc d < n)) (cond_first (is_chain f) _ _ _ h.1 refl)
+      (λ j. step_call inner c (from ts k) f h.0 j _ _ h.3.1.0 (omega (arith, lv)) (subst (λ (y : Span). Reads (from h.0 j) (call_by lm inner c (lo ts) f (from h.0 j)) (Is (opt_chain_expr s false (opt_call y f xs)) r) (suc d < n)) (h.4 ∙ sym h.5)
+      (subst (λ (ys : Trees). Reads (from h.0 j) (call_by lm inner c (lo ts) f (from h.0 j)) (Is (opt_chain_expr s false (opt_call s f ys)) r) (suc d < n)) (pack_unpack xs)
+      (subst (λ (y : Tree). Reads (from h.0 j) (call_by lm inner c (lo ts) f (from h.0 j)) (Is y r) (suc d < n)) (cond_first (is_chain f) _ _ _ h.1 refl)
       (called inner c ts k f h.0 j s xs h.3.0 r (d < reaches xs) h.3.1.2 (args xs h.3.0 r se ge h.3.2) (λ u. omega arith) h.4))))) K
 
   -- calls of `super` and `import`
@@ -366,7 +366,7 @@ module _ (z d : ℕ) (ih : (e : ℕ) → Comes z e) (deep : Deep z d) (F : Behin
       let o = operated c op h.2 in
       if_yes (eqb (kind ts) hash_kind) _ _ W _ (eq-eqb (kind ts) hash_kind h.4.1.0) (then_is (private_by lm inner (from ts k)) _ (private_name t x) h.0 (suc d < n) W _ (private_found inner (coded p c) t x ts h.0 k h.4) (λ u. u)
       (λ j. if_yes _ _ _ W _ (and_from _ _ (eq-eqb (kind h.0) in_kind (h.5.0 ∙ e)) (and_from _ _ (subst (λ (y : ℕ). operates c y ≡ true) e h.2) (le-leb l 11 (subst (λ (y : ℕ). l ≤ binary_level y) e le))))
-      (then_is (binary_by lm inner c (from ts k) (private_name t x) (from h.0 j)) _ (bin_expr s op (private_name t x) b) r (suc d < n) W _
+      (then_is (binary_by lm inner c (lo ts) (private_name t x) (from h.0 j)) _ (bin_expr s op (private_name t x) b) r (suc d < n) W _
       (binary_found inner c ts k (private_name t x) h.0 j _ op s b h.1 r (d < reach b) h.5.0 h.5.1 h.5.3 (λ i. last_found b p c (right_level op) h.1 r i sz g h.6.1 (omega (arith, right_five op o)) (omega (arith, right_most op)) (right_asked op o) h.6.0 fo (leads.binary p c l s op (private_name t x) b ts r ca h)) (λ u. omega arith) h.7) (λ u. u)
       (λ i. arrived (bin_expr s op (private_name t x) b) r le K i))))
 
@@ -378,26 +378,26 @@ module _ (z d : ℕ) (ih : (e : ℕ) → Comes z e) (deep : Deep z d) (F : Behin
   operand_found a m r sz g h le fo fa j = last_found a p c 16 m r j sz g h (omega arith) (omega arith) (record { conditional = λ e. omega (arith, e); update = λ e. omega (arith, e) }) le fo fa
 
   step_comma_found : (u y : Tree) (m a b : Input) (j : List ℕ) (P : Type 0) → kind m ≡ comma_kind → rest m ≡ a → ((i : List ℕ) → Reads (from a i) (inner.expr c 2 (from a i)) (Is y b) P) → (P → suc d < n)
-      → Reads (from m j) (step_by lm inner c (from ts k) u (from m j)) (Is (extended u y (span (lo ts) b.last)) b) (suc d < n)
+      → Reads (from m j) (step_by lm inner c (lo ts) u (from m j)) (Is (extended u y (span (lo ts) b.last)) b) (suc d < n)
   unfolding step_by
   step_comma_found u y m a b j P e q f i = if_yes (eqb (kind m) comma_kind) _ _ _ _ (eq-eqb (kind m) comma_kind e)
       (then_past m a j (inner.expr c 2) _ y b P _ _ q (f j) i (λ o. here refl))
 
   -- the expressions after the commas, one by one
   seq_loop : (y : Tree) (ys : Trees) (ds : List Tree) (u : Tree) (m r : Input) (j : List ℕ) (s : Span) → ((e : Tree) (v : Span) → extended u e v ≡ seq_expr v (pack (ds ++ e ∷ []))) → sizes (more y ys) < z → CoveredAll (more y ys) → CommaThen (Expr 2 (coded p c)) (coded p c) (children (more y ys)) m r
-      → goes_expr c (last_ends (more y ys)) r < 2 → F.trees p c (more y ys) m r → suc (reaches (more y ys)) ≤ n → l ≤ 1 → s ≡ span (lo ts) r.last → On (seq_expr s (pack (ds ++ (y ∷ unpack ys)))) r → Loops (loop_step lm inner c l (from ts k)) u m j W (suc d < n)
+      → goes_expr c (last_ends (more y ys)) r < 2 → F.trees p c (more y ys) m r → suc (reaches (more y ys)) ≤ n → l ≤ 1 → s ≡ span (lo ts) r.last → On (seq_expr s (pack (ds ++ (y ∷ unpack ys)))) r → Loops (loop_step lm inner c l (lo ts)) u m j W (suc d < n)
   unfolding loop_step
   seq_loop y none ds u m r j s ext sz g h fo fa ne le sp K =
-      loop_on (loop_step lm inner c l (from ts k)) u (seq_expr s (pack (ds ++ y ∷ []))) m r j (suc d < n) W _
+      loop_on (loop_step lm inner c l (lo ts)) u (seq_expr s (pack (ds ++ y ∷ []))) m r j (suc d < n) W _
       (if_no (ltb (goes_expr c (ends u) m) l) _ _ _ _ (le-ltb (goes_expr c (ends u) m) l (omega (arith, goes_comma c (ends u) m h.2.0)))
-      (then_is (step_by lm inner c (from ts k) u (from m j)) _ (extended u y (span (lo ts) h.1.last)) h.1 (suc d < n) _ _
+      (then_is (step_by lm inner c (lo ts) u (from m j)) _ (extended u y (span (lo ts) h.1.last)) h.1 (suc d < n) _ _
       (step_comma_found u y m h.0 h.1 j (d < reach y) h.2.0 h.2.2 (λ i. subst (λ (x : Input). Reads (from h.0 i) (inner.expr c 2 (from h.0 i)) (Is y x) (d < reach y)) (sym h.4) (last_found y p c 2 h.0 r i (omega arith) g.0 (subst (λ (x : Input). Produces y (coded p c) h.0 x) h.4 h.3.1) (omega arith) (omega arith) two_asked h.3.0 fo (leads.last p c y m r fa h))) (λ v. omega arith)) (λ v. v)
       (λ i. ended _ _ _ (ap (λ (t : Tree). go_on t) (ext y (span (lo ts) h.1.last) ∙ ap (λ (x : Input). seq_expr (span (lo ts) x.last) (pack (ds ++ y ∷ []))) h.4 ∙ ap (λ (x : Span). seq_expr x (pack (ds ++ y ∷ []))) (sym sp)), h.4)))) (λ v. v)
       (omega (arith, takes 14 m h.0 h.2.0 (omega arith) h.2.2, taken y _ h.0 h.1 (omega (arith, h.3.0)) h.3.1, ap (λ (x : Input). len x) h.4)) K
   seq_loop y (more y2 ys) ds u m r j s ext sz g h fo fa ne le sp K =
-      loop_on (loop_step lm inner c l (from ts k)) u (seq_expr (span (lo ts) h.1.last) (pack (ds ++ y ∷ []))) m h.1 j (suc d < n) W _
+      loop_on (loop_step lm inner c l (lo ts)) u (seq_expr (span (lo ts) h.1.last) (pack (ds ++ y ∷ []))) m h.1 j (suc d < n) W _
       (if_no (ltb (goes_expr c (ends u) m) l) _ _ _ _ (le-ltb (goes_expr c (ends u) m) l (omega (arith, goes_comma c (ends u) m h.2.0)))
-      (then_is (step_by lm inner c (from ts k) u (from m j)) _ (extended u y (span (lo ts) h.1.last)) h.1 (suc d < n) _ _
+      (then_is (step_by lm inner c (lo ts) u (from m j)) _ (extended u y (span (lo ts) h.1.last)) h.1 (suc d < n) _ _
       (step_comma_found u y m h.0 h.1 j (d < reach y) h.2.0 h.2.2 (λ i. found y p c 2 h.0 h.1 i (omega arith) g.0 h.3.1 (omega arith) (omega arith) two_asked h.3.0 (comma_after c (ends y) 2 h.1 h.4.2.0 (omega arith))) (λ v. omega arith)) (λ v. v)
       (λ i. here (ap (λ (t : Tree). go_on t) (ext y (span (lo ts) h.1.last)))))) (λ v. v)
       (omega (arith, takes 14 m h.0 h.2.0 (omega arith) h.2.2, taken y _ h.0 h.1 (omega (arith, h.3.0)) h.3.1))
@@ -456,7 +456,7 @@ module _ (z d : ℕ) (ih : (e : ℕ) → Comes z e) (deep : Deep z d) (F : Behin
 
   -- an assignment after its target: the expression that stands there is refined to it, and reading comes to it
   assigns : (s : Span) (op : ℕ) (x a b : Tree) (m o r : Input) (j : List ℕ) → is_assign_op op ≡ true → kind m ≡ op → rest m ≡ o → to_target op j x ≡ Ok a → size b < z → Covered b → Expr 2 (coded p c) (child b (λ y. Produces b y)) o r → s ≡ span (lo ts) r.last → suc (reach b) ≤ n → goes_expr c (ends b) r < 2 → F.tree p c 2 b o r
-      → Reads (from m j) (step_by lm inner c (from ts k) x (from m j)) (Is (assign_expr s op a b) r) (suc d < n)
+      → Reads (from m j) (step_by lm inner c (lo ts) x (from m j)) (Is (assign_expr s op a b) r) (suc d < n)
   unfolding step_by assign_by
   assigns s op x a b m o r j w e q t sz g h sp ne fo fa =
       let is : is_assign_op (kind m) ≡ true = subst (λ (y : ℕ). is_assign_op y ≡ true) (sym e) w in
@@ -491,11 +491,11 @@ module _ (z d : ℕ) (ih : (e : ℕ) → Comes z e) (deep : Deep z d) (F : Behin
   comes_pattern s op a b r sa sb ga gb h st le ne fo ca K = let e0 = op_assigns op a st h.3 in
       if_no (eqb (kind ts) hash_kind) _ _ W _ (structured_starts a (coded p c) ts h.0 st h.4) (then_reads (prefix_by lm inner c l (from ts k)) _ (Cover_read a h.0) (suc d < n) W _
       (structured_read z d found (coverings z (λ e. finds z e ih) d) p c l a ts h.0 k n (omega (arith, sa)) ga st h.4 (omega arith)) (λ u. u)
-      (λ y v. if_yes (leb l (level y.0)) _ _ W _ (le-leb l (level y.0) (omega (arith, v.tight))) (looped (loop_step lm inner c l (from ts k)) y.0 y.1.source y.1.commas W _
-      (subst (λ (i : Input). Loops (loop_step lm inner c l (from ts k)) y.0 i y.1.commas W (suc d < n)) (sym v.source)
-      (loop_on (loop_step lm inner c l (from ts k)) y.0 (assign_expr s op a b) h.0 r y.1.commas (suc d < n) W _
+      (λ y v. if_yes (leb l (level y.0)) _ _ W _ (le-leb l (level y.0) (omega (arith, v.tight))) (looped (loop_step lm inner c l (lo ts)) y.0 y.1.source y.1.commas W _
+      (subst (λ (i : Input). Loops (loop_step lm inner c l (lo ts)) y.0 i y.1.commas W (suc d < n)) (sym v.source)
+      (loop_on (loop_step lm inner c l (lo ts)) y.0 (assign_expr s op a b) h.0 r y.1.commas (suc d < n) W _
       (if_no (ltb (goes_expr c (ends y.0) h.0) l) _ _ _ _ (le-ltb (goes_expr c (ends y.0) h.0) l (subst (λ (i : ℕ). l ≤ goes_expr c i h.0) (sym v.closed) (omega (arith, goes_assign op h.0 h.2 h.5.0))))
-      (then_is (step_by lm inner c (from ts k) y.0 (from h.0 y.1.commas)) _ (assign_expr s op a b) r (suc d < n) _ _
+      (then_is (step_by lm inner c (lo ts) y.0 (from h.0 y.1.commas)) _ (assign_expr s op a b) r (suc d < n) _ _
       (assigns s op y.0 a b h.0 h.1 r y.1.commas h.2 h.5.0 h.5.2 (subst (λ (i : ℕ). to_target i y.1.commas y.0 ≡ Ok a) (sym e0) (v.target y.1.commas ∙ v.refines.so false refl y.1.commas (λ n q. refl))) sb gb h.6 h.7 (omega arith) fo (leads.assigns p c l s op a b ts r ca h)) (λ u. u) (λ i. here refl))) (λ u. u)
       (omega (arith, takes op h.0 h.1 h.5.0 (some_assign op h.2) h.5.2, taken b _ h.1 r (omega (arith, h.6.0)) h.6.1)) K)))))
 

@@ -4,7 +4,7 @@ use Rattle.std.proofs.lemmas.Bool.{ne_eqb, le-leb, lt-ltb, and_parts}
 use Rattle.base_token.specs.declared.place.Span.{Span}
 use Rattle.base_token.specs.Kinds.{hash_kind, assign_kind}
 use Rattle.tree_spec.specs.Tree.{Tree, ident, member_expr, super_prop_expr, paren_expr, assign_expr, binding_ident, array_pat, object_pat, assign_pat, rest_pat, expr_pat}
-use Rattle.grammar_spec.specs.Tokens.Input.{Input, Code, kind, with_in}
+use Rattle.grammar_spec.specs.Tokens.Input.{Input, Code, kind, with_in, lo}
 use Rattle.grammar_spec.specs.Tokens.Operators.{goes_expr}
 use Rattle.grammar_spec.specs.Tokens.Shape.{level, ends, is_simple, is_target_expr, is_structured, is_place, is_target}
 use Rattle.grammar_spec.specs.Grammar.{Produces}
@@ -31,11 +31,11 @@ structured_starts (object_pat s xs) c ts r e h = ne_eqb (kind ts) hash_kind (λ 
 structured_starts _ c ts r e h = absurd (true≢false (sym e))
 
 -- the loop stops at once, with what has been read
-pub stops_here : (inner : Inner Input) (c : Code) (l : ℕ) (start s : State Input) (x : Tree) (W : Tree × State Input → Type 0) (Q : Type 0) → goes_expr c (ends x) s.source < l → W (x, s) → Loops (loop_step lm inner c l start) x s.source s.commas W Q
+pub stops_here : (inner : Inner Input) (c : Code) (l : ℕ) (start s : State Input) (x : Tree) (W : Tree × State Input → Type 0) (Q : Type 0) → goes_expr c (ends x) s.source < l → W (x, s) → Loops (loop_step lm inner c l (lo start.source)) x s.source s.commas W Q
 unfolding loop_step
-stops_here inner c l start s x W Q h w = loop_after (loop_step lm inner c l start) x s.source s.commas (λ y. ◌≡◌ {A = Step Tree × State Input} y (finished x, s)) ⊥ W Q
+stops_here inner c l start s x W Q h w = loop_after (loop_step lm inner c l (lo start.source)) x s.source s.commas (λ y. ◌≡◌ {A = Step Tree × State Input} y (finished x, s)) ⊥ W Q
     (if_yes (ltb (goes_expr c (ends x) s.source) l) _ _ _ _ (lt-ltb (goes_expr c (ends x) s.source) l h) (ended (finished x, s) _ _ refl)) (λ u. absurd u)
-    (λ y v a. subst (λ (o : Step Tree × State Input). Goes (loop_step lm inner c l start) s.source W Q o) (sym v) w)
+    (λ y v a. subst (λ (o : Step Tree × State Input). Goes (loop_step lm inner c l (lo start.source)) s.source W Q o) (sym v) w)
 
 -- a pattern in brackets as an item
 structured_item : (z d : ℕ) (f : Finds z d) (cov : Covering z d) (p : Bool) (c : Code) (t : Tree) (ts r : Input) (k : List ℕ) → size t < suc z → Covered t → is_structured t ≡ true → Produces t (coded p c) ts r → ((e : ℕ) → Follow c e 2 r)
@@ -44,7 +44,7 @@ unfolding expr_by expr_from loop_by
 structured_item z d f cov p c t ts r k sz g e h fo = if_no (eqb (kind ts) hash_kind) _ _ _ _ (structured_starts t (coded p c) ts r e h)
     (then_reads (prefix_by lm (readers lm d) c 2 (from ts k)) _ (Cover_read t r) (suc d < reach t) _ _ (structured_read z d f cov p c 2 t ts r k (reach t) sz g e h (omega arith)) (λ u. u)
     (λ y v. if_yes (leb 2 (level y.0)) _ _ _ _ (le-leb 2 (level y.0) (omega (arith, v.tight)))
-    (looped (loop_step lm (readers lm d) c 2 (from ts k)) y.0 y.1.source y.1.commas _ _ (stops_here (readers lm d) c 2 (from ts k) y.1 y.0 _ _ (subst (λ (i : Input). goes_expr c (ends y.0) i < 2) (sym v.source) (fo (ends y.0)).stop) (v.source, v.refines)))))
+    (looped (loop_step lm (readers lm d) c 2 (lo ts)) y.0 y.1.source y.1.commas _ _ (stops_here (readers lm d) c 2 (from ts k) y.1 y.0 _ _ (subst (λ (i : Input). goes_expr c (ends y.0) i < 2) (sym v.source) (fo (ends y.0)).stop) (v.source, v.refines)))))
 
 -- ---- other items
 

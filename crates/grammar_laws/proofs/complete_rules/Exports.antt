@@ -101,23 +101,23 @@ module _ (z : Nested) (p : Bool) (c : Code) where
 
   module _ (start : Input) (i : List ℕ) (s : Span) (ts r : Input) (k : List ℕ) (e : s ≡ span (lo start) r.last) where
     default_function : (q : Span) (x : Tree) (t : Span) (ps ds : Trees) (b : Tree) (g a : Bool) → Within z.Covered (function t ps ds b g a) → Produces (fn_expr q x (function t ps ds b g a)) (coded p c) ts r
-        → Reads (from ts k) (export_default lm z.inner c (from start i) (from ts k)) (Is (export_default_decl s (fn_expr q x (function t ps ds b g a))) r) (z.depth < within z.reach (function t ps ds b g a))
+        → Reads (from ts k) (export_default lm z.inner c (lo start) (from ts k)) (Is (export_default_decl s (fn_expr q x (function t ps ds b g a))) r) (z.depth < within z.reach (function t ps ds b g a))
     unfolding export_default
     default_function q x t ps ds b g false w h = let y = function_expressed z p c q x t ps ds b g false ts r k w h in
         if_yes (kind ts == function_kind) _ _ _ _ (eq-eqb (kind ts) function_kind (ap (λ (d : Input). kind d) y.1 ∙ y.2))
-        (then_is (function_expr_by lm z.inner c (from ts k) false (from ts k)) _ (fn_expr q x (function t ps ds b g false)) r _ _ _ (subst (λ (d : Input). Reads (from d k) (function_expr_by lm z.inner c (from ts k) false (from d k)) (Is (fn_expr q x (function t ps ds b g false)) r) (z.depth < within z.reach (function t ps ds b g false))) (sym y.1) (y.4 k)) (λ u. u)
+        (then_is (function_expr_by lm z.inner c (lo ts) false (from ts k)) _ (fn_expr q x (function t ps ds b g false)) r _ _ _ (subst (λ (d : Input). Reads (from d k) (function_expr_by lm z.inner c (lo ts) false (from d k)) (Is (fn_expr q x (function t ps ds b g false)) r) (z.depth < within z.reach (function t ps ds b g false))) (sym y.1) (y.4 k)) (λ u. u)
         (λ j. here (ap (λ (d : Span). export_default_decl d (fn_expr q x (function t ps ds b g false))) (sym e))))
     default_function q x t ps ds b g true w h = let y = function_expressed z p c q x t ps ds b g true ts r k w h in
         if_no (kind ts == function_kind) _ _ _ _ (subst (λ (n : ℕ). eqb n function_kind ≡ false) (sym y.1.0.0) refl) (if_yes (starts_async lm z.inner (from ts k)) _ _ _ _ (async_on z.inner (coded p c) ts y.0 r k y.1 y.2)
-        (then_is (function_expr_by lm z.inner c (from ts k) true (from (rest ts) k)) _ (fn_expr q x (function t ps ds b g true)) r _ _ _ (onto ts y.0 k (λ d. function_expr_by lm z.inner c (from ts k) true d) _ _ y.1.0.3 (y.4 k)) (λ u. u)
+        (then_is (function_expr_by lm z.inner c (lo ts) true (from (rest ts) k)) _ (fn_expr q x (function t ps ds b g true)) r _ _ _ (onto ts y.0 k (λ d. function_expr_by lm z.inner c (lo ts) true d) _ _ y.1.0.3 (y.4 k)) (λ u. u)
         (λ j. here (ap (λ (d : Span). export_default_decl d (fn_expr q x (function t ps ds b g true))) (sym e)))))
 
-    default_class : (q : Span) (x t : Tree) → Within z.Covered (class_expr q x t) → Produces (class_expr q x t) (coded p c) ts r → Reads (from ts k) (export_default lm z.inner c (from start i) (from ts k)) (Is (export_default_decl s (class_expr q x t)) r) (z.depth < within z.reach (class_expr q x t))
+    default_class : (q : Span) (x t : Tree) → Within z.Covered (class_expr q x t) → Produces (class_expr q x t) (coded p c) ts r → Reads (from ts k) (export_default lm z.inner c (lo start) (from ts k)) (Is (export_default_decl s (class_expr q x t)) r) (z.depth < within z.reach (class_expr q x t))
     unfolding export_default
     default_class q x t w h = if_no (kind ts == function_kind) _ _ _ _ (subst (λ (n : ℕ). eqb n function_kind ≡ false) (sym h.2.0) refl) (if_no (starts_async lm z.inner (from ts k)) _ _ _ _ (and_left (kind ts == async_kind) _ (subst (λ (n : ℕ). eqb n async_kind ≡ false) (sym h.2.0) refl))
         (if_yes (kind ts == class_kind) _ _ _ _ (eq-eqb (kind ts) class_kind h.2.0) (then_is (class_expr_by lm z.inner c (from ts k)) _ (class_expr q x t) r _ _ _ (class_expressed q x t ts r k w h) (λ u. u) (λ j. here (ap (λ (d : Span). export_default_decl d (class_expr q x t)) (sym e))))))
 
-    default_expression : (x : Tree) (n : Input) → z.Covered x → starts_default ts ≡ true → 2 ≤ level x → Produces x (coded p c) ts n → Ends (coded p c) (ends x) n r → Reads (from ts k) (export_default lm z.inner c (from start i) (from ts k)) (Is (export_default_expr s x) r) (z.depth < z.reach x)
+    default_expression : (x : Tree) (n : Input) → z.Covered x → starts_default ts ≡ true → 2 ≤ level x → Produces x (coded p c) ts n → Ends (coded p c) (ends x) n r → Reads (from ts k) (export_default lm z.inner c (lo start) (from ts k)) (Is (export_default_expr s x) r) (z.depth < z.reach x)
     unfolding export_default
     default_expression x n g o le h v = let y = or_parts (kind ts == function_kind) _ (not-true _ o) in let w = or_parts (kind ts == class_kind) _ y.1 in let u = end_follows p c (ends x) n r v (ends_two x) in
         if_no (kind ts == function_kind) _ _ _ _ y.0 (if_no (starts_async lm z.inner (from ts k)) _ _ _ _ w.1 (if_no (kind ts == class_kind) _ _ _ _ w.0
@@ -125,7 +125,7 @@ module _ (z : Nested) (p : Bool) (c : Code) where
         (λ j. then_end p c (ends x) n r j _ _ _ v (here (ap (λ (d : Span). export_default_expr d x) (sym e)))))))
 
   -- `export` and `default`, after which one of these stands
-  default_found : (s : Span) (x : Tree) (ts m r : Input) (k : List ℕ) (Q : Type 0) → ExportDefault (coded p c) ts m → Reads (from m k) (export_default lm z.inner c (from ts k) (from m k)) (Is x r) Q → Reads (from ts k) (export_by lm z.inner c (from ts k)) (Is x r) Q
+  default_found : (s : Span) (x : Tree) (ts m r : Input) (k : List ℕ) (Q : Type 0) → ExportDefault (coded p c) ts m → Reads (from m k) (export_default lm z.inner c (lo ts) (from m k)) (Is x r) Q → Reads (from ts k) (export_by lm z.inner c (from ts k)) (Is x r) Q
   unfolding export_by
   default_found s x ts m r k Q h y = then_word c export_kind ts h.0 k _ _ _ h.1.0 h.1.1 h.1.3 (if_yes (kind h.0 == default_kind) _ _ _ _ (eq-eqb (kind h.0) default_kind h.2.0) (then_word c default_kind h.0 m k _ _ _ h.2.0 h.2.1 h.2.3 y))
 
@@ -157,7 +157,7 @@ module _ (z : Nested) (p : Bool) (c : Code) where
       (then_is (source_by lm z.inner c (from h.2 k)) _ (record { src = f; with_ = w }) r (z.depth < attributed z.reach w) _ _ (source_found z p c f w h.2 r k g h.6) (λ u. u) (λ j. here (ap (λ (y : Span). export_all y f w) (sym h.7)))))))))
 
   star_as : (start : Input) (i : List ℕ) (s q : Span) (x f w : Tree) (m r : Input) (k : List ℕ) → Attributed z.Covered w → ExportStarAs (coded p c) (child (export_namespace_specifier q x) (λ y. Produces (export_namespace_specifier q x) y)) (child f (λ y. Produces f y)) (child w (λ y. Produces w y)) m r → s ≡ span (lo start) r.last
-      → Reads (from m k) (export_star lm z.inner c (from start i) (from m k)) (Is (named_export s (more (export_namespace_specifier q x) none) f w) r) (z.depth < attributed z.reach w)
+      → Reads (from m k) (export_star lm z.inner c (lo start) (from m k)) (Is (named_export s (more (export_namespace_specifier q x) none) f w) r) (z.depth < attributed z.reach w)
   unfolding export_star
   star_as start i s q x f w m r k g h e = let v = h.2 in then_eat mul_kind m v.0 k _ _ _ v.2.0 v.2.2 (if_yes (kind v.0 == as_kind) _ _ _ _ (eq-eqb (kind v.0) as_kind v.3.0) (then_word c as_kind v.0 v.1 k _ _ _ v.3.0 v.3.1 v.3.3
       (then_is (export_name_by lm z.inner (from v.1 k)) _ x h.0 ⊥ _ _ (export_name_found z p c x v.1 h.0 k ⊥ v.4) (λ u. absurd u) (λ j. then_word c from_kind h.0 h.1 j _ _ _ h.3.0 h.3.1 h.3.3
@@ -165,7 +165,7 @@ module _ (z : Nested) (p : Bool) (c : Code) where
       (λ l. here (ap (λ (y : Span). named_export y (more (export_namespace_specifier (span (lo m) h.0.last) x) none) f w) (sym e) ∙ ap (λ (y : Span). named_export s (more (export_namespace_specifier y x) none) f w) (sym v.5))))))))
 
   list_found : (start : Input) (i : List ℕ) (s : Span) (xs : Trees) (f w : Tree) (m r : Input) (k : List ℕ) → Attributed z.Covered w → ExportList (coded p c) (children xs) (child f (λ y. Produces f y)) (child w (λ y. Produces w y)) m r → s ≡ span (lo start) r.last
-      → Reads (from m k) (export_list lm z.inner c (from start i) (from m k)) (Is (named_export s xs f w) r) (z.depth < attributed z.reach w)
+      → Reads (from m k) (export_list lm z.inner c (lo start) (from m k)) (Is (named_export s xs f w) r) (z.depth < attributed z.reach w)
   unfolding export_list
   list_found start i s xs f w m r k g h e = then_eat left_brace_kind m h.1.0 k _ _ _ h.1.1.0 h.1.1.2 (then_is (specifiers_by lm z.inner false c (from h.1.0 k)) _ (unpack xs) h.0 ⊥ _ _ (specifiers_found z p c false is_named_export (exports_read z p c) xs h.1.0 h.0 k h.1.2) (λ u. absurd u)
       (λ j. by_cases (is_absent f) _ _ _ h.2

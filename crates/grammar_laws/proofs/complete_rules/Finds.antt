@@ -5,7 +5,7 @@ use Rattle.base_proofs.proofs.Bools.{cond_second, cond_first}
 use Rattle.base_token.specs.declared.place.Span.{Span}
 use Rattle.base_token.specs.Kinds.{async_kind, comma_kind, dot_kind, question_mark_kind, left_paren_kind, left_bracket_kind, right_paren_kind, function_kind}
 use Rattle.tree_spec.specs.Tree.{Tree, Trees, none, more, this_expr, null_lit, bool_lit, ident, str_lit, number_lit, big_int_lit, regex_lit, paren_expr, array_lit, unary_expr, update_expr, await_expr, bin_expr, cond_expr, seq_expr, member_expr, call_expr, new_expr, computed_prop_name, ident_name, private_name, expr_or_spread, hole, absent, list, tpl, tagged_tpl, opt_chain_expr, opt_call, super, import, super_prop_expr, meta_prop_expr, yield_expr, object_lit, key_value_prop, assign_prop, spread_element, binding_ident, array_pat, object_pat, assign_pat, rest_pat, key_value_pat_prop, assign_pat_prop, expr_pat, assign_expr, arrow_expr, fn_expr, class_expr}
-use Rattle.grammar_spec.specs.Tokens.Input.{Input, Code, kind, kind2, brk, rest, is_word, with_in, in_arrow}
+use Rattle.grammar_spec.specs.Tokens.Input.{Input, Code, kind, kind2, brk, rest, is_word, with_in, in_arrow, lo}
 use Rattle.grammar_spec.specs.Tokens.Operators.{assignment_level, right_level, other_end, operates, goes_expr, is_assign_op}
 use Rattle.grammar_spec.specs.Tokens.Shape.{level, ends, last_ends, is_block, is_absent}
 use Rattle.grammar_spec.specs.Expressions.{is_update_op, Yield}
@@ -65,7 +65,7 @@ pub record Leads (F : Behind) : Type 0 where
 -- Reading comes to the loop with this tree in hand: what the loop answers is what reading answers.
 abbrev pub Comes : ℕ → ℕ → Type 1
 Comes z d = (F : Behind) → Leads F → (t : Tree) (p : Bool) (c : Code) (l : ℕ) (ts r : Input) (k : List ℕ) (W : Tree × State Input → Type 0) (n : ℕ) → size t < z → Covered t → Produces t (coded p c) ts r → 1 ≤ l → l ≤ level t → goes_expr c (ends t) r < tail t → Bare t ts r → F.tree p c l t ts r → reach t ≤ n
-    → ((j : List ℕ) → Loops (loop_step lm (readers lm d) c l (from ts k)) t r j W (suc d < n)) → Reads (from ts k) (expr_by lm (readers lm d) c l (from ts k)) W (suc d < n)
+    → ((j : List ℕ) → Loops (loop_step lm (readers lm d) c l (lo ts)) t r j W (suc d < n)) → Reads (from ts k) (expr_by lm (readers lm d) c l (from ts k)) W (suc d < n)
 
 pub bare_by : (t : Tree) (ts r : Input) → (kind r ≡ left_paren_kind → ⊥) → Bare t ts r
 bare_by (ident s n) ts r h = λ e q. absurd (h q)
@@ -138,9 +138,9 @@ positive (fn_expr s n f) c ts r g h l = omega arith
 positive (class_expr s n k) c ts r g h l = omega arith
 positive _ c ts r g h l = absurd (omega (arith, l))
 
-pub loop_stops : (inner : Inner Input) (c : Code) (l : ℕ) (start : State Input) (t : Tree) (r : Input) (k : List ℕ) (Q : Type 0) → goes_expr c (ends t) r < l → Loops (loop_step lm inner c l start) t r k (Is t r) Q
+pub loop_stops : (inner : Inner Input) (c : Code) (l : ℕ) (start : State Input) (t : Tree) (r : Input) (k : List ℕ) (Q : Type 0) → goes_expr c (ends t) r < l → Loops (loop_step lm inner c l (lo start.source)) t r k (Is t r) Q
 unfolding loop_step
-loop_stops inner c l start t r k Q h = loop_end (loop_step lm inner c l start) t t r r k ⊥ (Is t r) Q (if_yes (ltb (goes_expr c (ends t) r) l) _ _ _ _ (lt-ltb (goes_expr c (ends t) r) l h) (here refl)) (λ u. absurd u) (λ j. (refl, refl))
+loop_stops inner c l start t r k Q h = loop_end (loop_step lm inner c l (lo start.source)) t t r r k ⊥ (Is t r) Q (if_yes (ltb (goes_expr c (ends t) r) l) _ _ _ _ (lt-ltb (goes_expr c (ends t) r) l h) (here refl)) (λ u. absurd u) (λ j. (refl, refl))
 
 -- ---- what goes on
 
@@ -238,7 +238,7 @@ firm_leads = record {
 
 -- Reading comes to the loop, where whatever follows ends each tree.
 pub firmly : (z d : ℕ) → Comes z d → (t : Tree) (p : Bool) (c : Code) (l : ℕ) (ts r : Input) (k : List ℕ) (W : Tree × State Input → Type 0) (n : ℕ) → size t < z → Covered t → Produces t (coded p c) ts r → 1 ≤ l → l ≤ level t → Follow c (ends t) (tail t) r → Bare t ts r → Calm (ends t) l r → reach t ≤ n
-    → ((j : List ℕ) → Loops (loop_step lm (readers lm d) c l (from ts k)) t r j W (suc d < n)) → Reads (from ts k) (expr_by lm (readers lm d) c l (from ts k)) W (suc d < n)
+    → ((j : List ℕ) → Loops (loop_step lm (readers lm d) c l (lo ts)) t r j W (suc d < n)) → Reads (from ts k) (expr_by lm (readers lm d) c l (from ts k)) W (suc d < n)
 firmly z d ih t p c l ts r k W n sz g h one le fo ba ca ne K = ih firm firm_leads t p c l ts r k W n sz g h one le fo.stop ba (record { calm = ca.calm; end = fo.calm; sober = fo.sober; quits = fo.quits }) ne K
 
 -- the same at a level that is asked for

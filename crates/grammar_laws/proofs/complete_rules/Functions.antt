@@ -181,24 +181,24 @@ module _ (z : Nested) (p : Bool) (c : Code) where
   -- a declaration, from the word `function`
   pub declared : (start : Input) (i : List ℕ) (s : Span) (x f : Tree) (g a : Bool) (ts m n o r : Input) (k : List ℕ) → TakesWord (coded p c) function_kind ts m → Star g (coded p c) m n → is_ident x ≡ true → Produces x (coded p c) n o
       → ((j : List ℕ) → Reads (from o j) (function_by lm z.inner c (lo start) g a (from o j)) (Is f r) (z.depth < within z.reach f)) → s ≡ span (lo start) r.last
-      → Reads (from ts k) (function_decl_by lm z.inner c (from start i) a (from ts k)) (Is (fn_decl s x f) r) (z.depth < within z.reach f)
+      → Reads (from ts k) (function_decl_by lm z.inner c (lo start) a (from ts k)) (Is (fn_decl s x f) r) (z.depth < within z.reach f)
   unfolding function_decl_by
   declared start i s x f g a ts m n o r k w t y h v e = then_word c function_kind ts m k _ _ _ w.0 w.1 w.3 (then_is (star lm z.inner (from m k)) _ g n ⊥ _ _ (star_found g m n k ⊥ t (no_kind is_word (kind n) mul_kind (ident_is x (coded p c) n o y h).2.0 refl)) (λ u. absurd u)
       (λ j. let q = ident_is x (coded p c) n o y h in then_name c n o q.0 j _ _ _ q.2 q.3 q.4 (then_is (function_by lm z.inner c (lo start) g a (from o j)) _ f r (z.depth < within z.reach f) _ _ (v j) (λ u. u)
       (λ l. here (ap (λ (d : Span). fn_decl d (ident (first_span n) q.0) f) (sym e) ∙ ap (λ (d : Tree). fn_decl s d f) (sym q.1))))))
 
   pub function_declared : (s : Span) (x : Tree) (t : Span) (ps ds : Trees) (b : Tree) (g a : Bool) (ts r : Input) (k : List ℕ) → Within z.Covered (function t ps ds b g a) → Produces (fn_decl s x (function t ps ds b g a)) (coded p c) ts r
-      → (m : Input) × Async a (coded p c) ts m × (kind m ≡ function_kind) × ((j : List ℕ) → Reads (from m j) (function_decl_by lm z.inner c (from ts k) a (from m j)) (Is (fn_decl s x (function t ps ds b g a)) r) (z.depth < within z.reach (function t ps ds b g a)))
+      → (m : Input) × Async a (coded p c) ts m × (kind m ≡ function_kind) × ((j : List ℕ) → Reads (from m j) (function_decl_by lm z.inner c (lo ts) a (from m j)) (Is (fn_decl s x (function t ps ds b g a)) r) (z.depth < within z.reach (function t ps ds b g a)))
   function_declared s x t ps ds b g a ts r k w h = (h.2.0, h.2.2, h.2.3.0, λ j. declared ts k s x (function t ps ds b g a) g a h.2.0 h.2.1 h.0 h.1 r j h.2.3 h.2.4 h.3.0 h.3.1 (λ j. function_found t ps ds b g a (lo ts) h.1 r j w h.4 (h.5 ∙ h.6)) h.6)
 
   -- an expression, from the word `function`
   anonymous : (start : Input) (i : List ℕ) (s : Span) (f : Tree) (g a : Bool) (m r : Input) (k : List ℕ) → kind m ≡ left_paren_kind → ((j : List ℕ) → Reads (from m j) (function_by lm z.inner c (lo start) g a (from m j)) (Is f r) (z.depth < within z.reach f)) → s ≡ span (lo start) r.last
-      → Reads (from m k) (function_expr_name lm z.inner c (from start i) g a (from m k)) (Is (fn_expr s absent f) r) (z.depth < within z.reach f)
+      → Reads (from m k) (function_expr_name lm z.inner c (lo start) g a (from m k)) (Is (fn_expr s absent f) r) (z.depth < within z.reach f)
   unfolding function_expr_name
   anonymous start i s f g a m r k q v e = if_yes (kind m == left_paren_kind) _ _ _ _ (eq-eqb (kind m) left_paren_kind q) (then_is (function_by lm z.inner c (lo start) g a (from m k)) _ f r (z.depth < within z.reach f) _ _ (v k) (λ u. u) (λ j. built (λ d. fn_expr d absent f) s start r j _ e))
 
   named : (start : Input) (i : List ℕ) (s : Span) (x f : Tree) (g a : Bool) (m o r : Input) (k : List ℕ) → is_ident x ≡ true → Produces x (coded p (by g a c)) m o → ((j : List ℕ) → Reads (from o j) (function_by lm z.inner c (lo start) g a (from o j)) (Is f r) (z.depth < within z.reach f)) → s ≡ span (lo start) r.last
-      → Reads (from m k) (function_expr_name lm z.inner c (from start i) g a (from m k)) (Is (fn_expr s x f) r) (z.depth < within z.reach f)
+      → Reads (from m k) (function_expr_name lm z.inner c (lo start) g a (from m k)) (Is (fn_expr s x f) r) (z.depth < within z.reach f)
   unfolding function_expr_name
   named start i s x f g a m o r k y h v e = let q = ident_is x (coded p (by g a c)) m o y h in if_no (kind m == left_paren_kind) _ _ _ _ (no_kind is_word (kind m) left_paren_kind q.2.0 refl)
       (then_name (by g a c) m o q.0 k _ _ _ q.2 q.3 q.4 (then_is (function_by lm z.inner c (lo start) g a (from o k)) _ f r (z.depth < within z.reach f) _ _ (v k) (λ u. u) (λ j. here (ap (λ (d : Span). fn_expr d (ident (first_span m) q.0) f) (sym e) ∙ ap (λ (d : Tree). fn_expr s d f) (sym q.1)))))
@@ -208,7 +208,7 @@ module _ (z : Nested) (p : Bool) (c : Code) where
   paren_first f ts r t ps ds _ g a e h = absurd h
 
   pub function_expressed : (s : Span) (x : Tree) (t : Span) (ps ds : Trees) (b : Tree) (g a : Bool) (ts r : Input) (k : List ℕ) → Within z.Covered (function t ps ds b g a) → Produces (fn_expr s x (function t ps ds b g a)) (coded p c) ts r
-      → (m : Input) × Async a (coded p c) ts m × (kind m ≡ function_kind) × (barred c.context m ≡ false) × ((j : List ℕ) → Reads (from m j) (function_expr_by lm z.inner c (from ts k) a (from m j)) (Is (fn_expr s x (function t ps ds b g a)) r) (z.depth < within z.reach (function t ps ds b g a)))
+      → (m : Input) × Async a (coded p c) ts m × (kind m ≡ function_kind) × (barred c.context m ≡ false) × ((j : List ℕ) → Reads (from m j) (function_expr_by lm z.inner c (lo ts) a (from m j)) (Is (fn_expr s x (function t ps ds b g a)) r) (z.depth < within z.reach (function t ps ds b g a)))
   unfolding function_expr_by
   function_expressed s x t ps ds b g a ts r k w h = (
     h.2.0,
@@ -218,7 +218,7 @@ module _ (z : Nested) (p : Bool) (c : Code) where
     λ j. then_word c function_kind h.2.0 h.2.1 j _ _ _ h.2.3.0 h.2.3.1 h.2.3.3 (by_cases (is_absent x) _ _ _ h.3
         (λ e y. let q : kind h.0 ≡ left_paren_kind = ap (λ (d : Input). kind d) y ∙ paren_first (function t ps ds b g a) h.1 r t ps ds b g a refl h.4 in
         then_is (star lm z.inner (from h.2.1 j)) _ g h.0 ⊥ _ _ (star_found g h.2.1 h.0 j ⊥ h.2.4 (subst (λ (d : ℕ). eqb d mul_kind ≡ false) (sym q) refl)) (λ u. absurd u)
-        (λ l. subst (λ (d : Tree). Reads (from h.0 l) (function_expr_name lm z.inner c (from ts k) g a (from h.0 l)) (Is (fn_expr s d (function t ps ds b g a)) r) (z.depth < within z.reach (function t ps ds b g a))) (sym (absent_is x e))
+        (λ l. subst (λ (d : Tree). Reads (from h.0 l) (function_expr_name lm z.inner c (lo ts) g a (from h.0 l)) (Is (fn_expr s d (function t ps ds b g a)) r) (z.depth < within z.reach (function t ps ds b g a))) (sym (absent_is x e))
         (anonymous ts k s (function t ps ds b g a) g a h.0 r l q (λ i. function_found t ps ds b g a (lo ts) h.0 r i w (subst (λ (d : Input). Produces (function t ps ds b g a) (setting false (coded p c)) d r) (sym y) h.4) (h.5 ∙ h.6)) h.6)))
         (λ e y. then_is (star lm z.inner (from h.2.1 j)) _ g h.0 ⊥ _ _ (star_found g h.2.1 h.0 j ⊥ h.2.4 (no_kind is_word (kind h.0) mul_kind (ident_is x (coded p (by g a c)) h.0 h.1 y.0 y.1).2.0 refl)) (λ u. absurd u)
         (λ l. named ts k s x (function t ps ds b g a) g a h.0 h.1 r l y.0 y.1 (λ i. function_found t ps ds b g a (lo ts) h.1 r i w h.4 (h.5 ∙ h.6)) h.6))),

@@ -4,7 +4,7 @@ use Rattle.std.proofs.lemmas.Bool.{le-leb, and_parts}
 use Rattle.base_token.specs.declared.place.Span.{Span}
 use Rattle.base_token.specs.Kinds.{hash_kind}
 use Rattle.tree_spec.specs.Tree.{Tree, ident, member_expr, super_prop_expr, paren_expr, binding_ident, array_pat, object_pat, expr_pat}
-use Rattle.grammar_spec.specs.Tokens.Input.{Input, Code, kind}
+use Rattle.grammar_spec.specs.Tokens.Input.{Input, Code, kind, lo}
 use Rattle.grammar_spec.specs.Tokens.Operators.{goes_expr}
 use Rattle.grammar_spec.specs.Tokens.Shape.{level, ends, is_simple, is_target_expr, is_structured, is_place}
 use Rattle.grammar_spec.specs.Grammar.{Produces}
@@ -29,7 +29,7 @@ structured_head z f zero p c t ts r k sz g e h fo = too_deep _ _ (positive_cover
 structured_head z f (suc d) p c t ts r k sz g e h fo = if_no (eqb (kind ts) hash_kind) _ _ _ _ (structured_starts t (coded p c) ts r e h)
     (then_reads (prefix_by lm (readers lm d) c 1 (from ts k)) _ (Cover_read t r) (suc d < reach t) _ _ (structured_read z d (f d) (coverings z f d) p c 1 t ts r k (reach t) (omega arith) g e h (omega arith)) (λ u. u)
     (λ y v. if_yes (leb 1 (level y.0)) _ _ _ _ (le-leb 1 (level y.0) (omega (arith, v.tight)))
-    (looped (loop_step lm (readers lm d) c 1 (from ts k)) y.0 y.1.source y.1.commas _ _ (stops_here (readers lm d) c 1 (from ts k) y.1 y.0 _ _ (subst (λ (i : Input). goes_expr c (ends y.0) i < 1) (sym v.source) (subst (λ (e : ℕ). goes_expr c e r < 1) (sym v.closed) fo.stop))
+    (looped (loop_step lm (readers lm d) c 1 (lo ts)) y.0 y.1.source y.1.commas _ _ (stops_here (readers lm d) c 1 (from ts k) y.1 y.0 _ _ (subst (λ (i : Input). goes_expr c (ends y.0) i < 1) (sym v.source) (subst (λ (e : ℕ). goes_expr c e r < 1) (sym v.closed) fo.stop))
     (v.head y.1.commas ∙ v.refines.so false refl y.1.commas (λ n q. refl), v.source)))))
 
 simple_head : (z d : ℕ) → Finds z d → (p : Bool) (c : Code) (x t : Tree) (ts r : Input) (k : List ℕ) → size x < z → Covered x → Produces x (coded p c) ts r → 1 ≤ level x → Follow c (ends x) 1 r → ((i : List ℕ) → to_head i x ≡ Ok t) → reach x ≤ reach t → Reads (from ts k) ((readers lm d).expr c 1 (from ts k)) (Head t r) (d < reach t)

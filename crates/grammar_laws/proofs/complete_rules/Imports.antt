@@ -134,7 +134,7 @@ module _ (z : Nested) (p : Bool) (c : Code) where
   From f w m r = (n : Input) × TakesWord (coded p c) from_kind m n × Source (coded p c) (child f (λ y. Produces f y)) (child w (λ y. Produces w y)) n r
 
   module _ (start : Input) (i : List ℕ) (s : Span) (f w : Tree) (r : Input) (g : Attributed z.Covered w) (e : s ≡ span (lo start) r.last) where
-    end_found : (ys : List Tree) (xs : Trees) (ts : Input) (k : List ℕ) → pack ys ≡ xs → From f w ts r → Reads (from ts k) (import_end lm z.inner c (from start i) ys (from ts k)) (Is (import_decl s xs f w) r) (z.depth < attributed z.reach w)
+    end_found : (ys : List Tree) (xs : Trees) (ts : Input) (k : List ℕ) → pack ys ≡ xs → From f w ts r → Reads (from ts k) (import_end lm z.inner c (lo start) ys (from ts k)) (Is (import_decl s xs f w) r) (z.depth < attributed z.reach w)
     unfolding import_end
     end_found ys xs ts k q h = then_word c from_kind ts h.0 k _ _ _ h.1.0 h.1.1 h.1.3 (then_is (source_by lm z.inner c (from h.0 k)) _ (record { src = f; with_ = w }) r (z.depth < attributed z.reach w) _ _ (source_found z p c f w h.0 r k g h.2) (λ u. u)
         (λ j. here (ap (λ (y : Span). import_decl y (pack ys) f w) (sym e) ∙ ap (λ (y : Trees). import_decl s y f w) q)))
@@ -145,38 +145,38 @@ module _ (z : Nested) (p : Bool) (c : Code) where
         (λ j. here (ap (λ (y : Span). import_star_as_specifier y l) (sym h.5)))))
 
     rest_star : (ys : List Tree) (q : Span) (l : Tree) (ts m : Input) (k : List ℕ) → Produces (import_star_as_specifier q l) (coded p c) ts m → From f w m r
-        → Reads (from ts k) (import_rest lm z.inner c (from start i) ys (from ts k)) (Is (import_decl s (pack (ys ++ import_star_as_specifier q l ∷ [])) f w) r) (z.depth < attributed z.reach w)
+        → Reads (from ts k) (import_rest lm z.inner c (lo start) ys (from ts k)) (Is (import_decl s (pack (ys ++ import_star_as_specifier q l ∷ [])) f w) r) (z.depth < attributed z.reach w)
     unfolding import_rest
     rest_star ys q l ts m k h o = if_yes (kind ts == mul_kind) _ _ _ _ (eq-eqb (kind ts) mul_kind h.2.0) (then_is (star_import lm z.inner c (from ts k)) _ (import_star_as_specifier q l) m ⊥ _ _ (star_found q l ts m k h) (λ u. absurd u)
         (λ j. end_found (ys ++ import_star_as_specifier q l ∷ []) _ m j refl o))
 
     rest_named : (ys : List Tree) (xs : Trees) (ts m : Input) (k : List ℕ) → NamedImports (coded p c) (children xs) ts m → From f w m r
-        → Reads (from ts k) (import_rest lm z.inner c (from start i) ys (from ts k)) (Is (import_decl s (pack (ys ++ unpack xs)) f w) r) (z.depth < attributed z.reach w)
+        → Reads (from ts k) (import_rest lm z.inner c (lo start) ys (from ts k)) (Is (import_decl s (pack (ys ++ unpack xs)) f w) r) (z.depth < attributed z.reach w)
     unfolding import_rest
     rest_named ys xs ts m k h o = if_no (kind ts == mul_kind) _ _ _ _ (ne_eqb (kind ts) mul_kind (λ q. omega (arith, q, h.1.0))) (then_eat left_brace_kind ts h.0 k _ _ _ h.1.0 h.1.2
         (then_is (specifiers_by lm z.inner true c (from h.0 k)) _ (unpack xs) m ⊥ _ _ (specifiers_found z p c true is_named_import imports_read xs h.0 m k h.2) (λ u. absurd u) (λ j. end_found (ys ++ unpack xs) _ m j refl o)))
 
     -- after a default binding
     after_default : (q : Span) (l : Tree) (xs : Trees) (ts n m : Input) (k : List ℕ) → Produces (import_default_specifier q l) (coded p c) ts n → AfterDefault (coded p c) (children xs) n m → From f w m r
-        → Reads (from ts k) (import_default lm z.inner c (from start i) (from ts k)) (Is (import_decl s (more (import_default_specifier q l) xs) f w) r) (z.depth < attributed z.reach w)
+        → Reads (from ts k) (import_default lm z.inner c (lo start) (from ts k)) (Is (import_decl s (more (import_default_specifier q l) xs) f w) r) (z.depth < attributed z.reach w)
     unfolding import_default
     after_default q l xs ts n m k h a o = then_is (local_by lm z.inner c (from ts k)) _ l n ⊥ _ _ (local_found z p c l ts n k ⊥ h.0.0 h.0.1) (λ u. absurd u)
-        (λ j. subst (λ (y : Span). Reads (from n j) (cond (kind n == comma_kind) (import_rest lm z.inner c (from start i) (import_default_specifier y l ∷ []) (from (rest n) j)) (import_end lm z.inner c (from start i) (import_default_specifier y l ∷ []) (from n j))) (Is (import_decl s (more (import_default_specifier q l) xs) f w) r) (z.depth < attributed z.reach w))
+        (λ j. subst (λ (y : Span). Reads (from n j) (cond (kind n == comma_kind) (import_rest lm z.inner c (lo start) (import_default_specifier y l ∷ []) (from (rest n) j)) (import_end lm z.inner c (lo start) (import_default_specifier y l ∷ []) (from n j))) (Is (import_decl s (more (import_default_specifier q l) xs) f w) r) (z.depth < attributed z.reach w))
         (sym (first_at ts n q (ident_is l (coded p c) ts n h.0.0 h.0.1).4 h.1)) (on xs j a))
       where
-        by_comma : (x : Input) (j : List ℕ) (xs : Trees) → kind n ≡ comma_kind → rest n ≡ x → Reads (from x j) (import_rest lm z.inner c (from start i) (import_default_specifier q l ∷ []) (from x j)) (Is (import_decl s (more (import_default_specifier q l) xs) f w) r) (z.depth < attributed z.reach w)
-            → Reads (from n j) (cond (kind n == comma_kind) (import_rest lm z.inner c (from start i) (import_default_specifier q l ∷ []) (from (rest n) j)) (import_end lm z.inner c (from start i) (import_default_specifier q l ∷ []) (from n j))) (Is (import_decl s (more (import_default_specifier q l) xs) f w) r) (z.depth < attributed z.reach w)
-        by_comma x j xs e v y = if_yes (kind n == comma_kind) _ _ _ _ (eq-eqb (kind n) comma_kind e) (onto n x j (λ y. import_rest lm z.inner c (from start i) (import_default_specifier q l ∷ []) y) _ _ v y)
+        by_comma : (x : Input) (j : List ℕ) (xs : Trees) → kind n ≡ comma_kind → rest n ≡ x → Reads (from x j) (import_rest lm z.inner c (lo start) (import_default_specifier q l ∷ []) (from x j)) (Is (import_decl s (more (import_default_specifier q l) xs) f w) r) (z.depth < attributed z.reach w)
+            → Reads (from n j) (cond (kind n == comma_kind) (import_rest lm z.inner c (lo start) (import_default_specifier q l ∷ []) (from (rest n) j)) (import_end lm z.inner c (lo start) (import_default_specifier q l ∷ []) (from n j))) (Is (import_decl s (more (import_default_specifier q l) xs) f w) r) (z.depth < attributed z.reach w)
+        by_comma x j xs e v y = if_yes (kind n == comma_kind) _ _ _ _ (eq-eqb (kind n) comma_kind e) (onto n x j (λ y. import_rest lm z.inner c (lo start) (import_default_specifier q l ∷ []) y) _ _ v y)
 
-        named : (x : Input) (j : List ℕ) (xs : Trees) → NamedImports (coded p c) (children xs) x m → Reads (from x j) (import_rest lm z.inner c (from start i) (import_default_specifier q l ∷ []) (from x j)) (Is (import_decl s (more (import_default_specifier q l) xs) f w) r) (z.depth < attributed z.reach w)
-        named x j xs v = subst (λ (y : Trees). Reads (from x j) (import_rest lm z.inner c (from start i) (import_default_specifier q l ∷ []) (from x j)) (Is (import_decl s (more (import_default_specifier q l) y) f w) r) (z.depth < attributed z.reach w)) (pack_unpack xs) (rest_named (import_default_specifier q l ∷ []) xs x m j v o)
+        named : (x : Input) (j : List ℕ) (xs : Trees) → NamedImports (coded p c) (children xs) x m → Reads (from x j) (import_rest lm z.inner c (lo start) (import_default_specifier q l ∷ []) (from x j)) (Is (import_decl s (more (import_default_specifier q l) xs) f w) r) (z.depth < attributed z.reach w)
+        named x j xs v = subst (λ (y : Trees). Reads (from x j) (import_rest lm z.inner c (lo start) (import_default_specifier q l ∷ []) (from x j)) (Is (import_decl s (more (import_default_specifier q l) y) f w) r) (z.depth < attributed z.reach w)) (pack_unpack xs) (rest_named (import_default_specifier q l ∷ []) xs x m j v o)
 
         on : (xs : Trees) (j : List ℕ) → AfterDefault (coded p c) (children xs) n m
-            → Reads (from n j) (cond (kind n == comma_kind) (import_rest lm z.inner c (from start i) (import_default_specifier q l ∷ []) (from (rest n) j)) (import_end lm z.inner c (from start i) (import_default_specifier q l ∷ []) (from n j))) (Is (import_decl s (more (import_default_specifier q l) xs) f w) r) (z.depth < attributed z.reach w)
+            → Reads (from n j) (cond (kind n == comma_kind) (import_rest lm z.inner c (lo start) (import_default_specifier q l ∷ []) (from (rest n) j)) (import_end lm z.inner c (lo start) (import_default_specifier q l ∷ []) (from n j))) (Is (import_decl s (more (import_default_specifier q l) xs) f w) r) (z.depth < attributed z.reach w)
         on none j (inl e) = let v : kind n ≡ from_kind = ap (λ (y : Input). kind y) e ∙ o.1.0 in if_no (kind n == comma_kind) _ _ _ _ (ne_eqb (kind n) comma_kind (λ u. omega (arith, u, v))) (end_found (import_default_specifier q l ∷ []) _ n j refl (subst (λ (y : Input). From f w y r) (sym e) o))
         on none j (inr e) = by_comma e.0 j none e.1.0 e.1.2 (named e.0 j none e.2)
         on (more (import_star_as_specifier t b) ys) j v = by_comma v.0 j (more (import_star_as_specifier t b) ys) v.1.0 v.1.2
-            (subst (λ (y : Trees). Reads (from v.0 j) (import_rest lm z.inner c (from start i) (import_default_specifier q l ∷ []) (from v.0 j)) (Is (import_decl s (more (import_default_specifier q l) (more (import_star_as_specifier t b) y)) f w) r) (z.depth < attributed z.reach w)) (sym (empty_none ys v.2.0))
+            (subst (λ (y : Trees). Reads (from v.0 j) (import_rest lm z.inner c (lo start) (import_default_specifier q l ∷ []) (from v.0 j)) (Is (import_decl s (more (import_default_specifier q l) (more (import_star_as_specifier t b) y)) f w) r) (z.depth < attributed z.reach w)) (sym (empty_none ys v.2.0))
             (rest_star (import_default_specifier q l ∷ []) t b v.0 m j v.2.1 o))
         on (more x ys) j v = by_comma v.0 j (more x ys) v.1.0 v.1.2 (named v.0 j (more x ys) v.2)
 
@@ -185,16 +185,16 @@ module _ (z : Nested) (p : Bool) (c : Code) where
 
     -- after `import`
     clause_found : (xs : Trees) (m n : Input) (k : List ℕ) → ImportClause (coded p c) (children xs) m n → Source (coded p c) (child f (λ y. Produces f y)) (child w (λ y. Produces w y)) n r
-        → Reads (from m k) (cond (kind m == str_kind) (source_by lm z.inner c (from m k) >>= λ x. Ok (import_decl (span (lo start) x.1.source.last) none x.0.src x.0.with_, x.1)) (cond (is_word (kind m)) (import_default lm z.inner c (from start i) (from m k)) (import_rest lm z.inner c (from start i) [] (from m k)))) (Is (import_decl s xs f w) r) (z.depth < attributed z.reach w)
+        → Reads (from m k) (cond (kind m == str_kind) (source_by lm z.inner c (from m k) >>= λ x. Ok (import_decl (span (lo start) x.1.source.last) none x.0.src x.0.with_, x.1)) (cond (is_word (kind m)) (import_default lm z.inner c (lo start) (from m k)) (import_rest lm z.inner c (lo start) [] (from m k)))) (Is (import_decl s xs f w) r) (z.depth < attributed z.reach w)
     clause_found none m n k (inl v) h = if_yes (kind m == str_kind) _ _ _ _ (eq-eqb (kind m) str_kind (ap (λ (y : Input). kind y) v ∙ string_kind f (coded p c) n h.0 h.1.0 h.1.1))
         (then_is (source_by lm z.inner c (from m k)) _ (record { src = f; with_ = w }) r (z.depth < attributed z.reach w) _ _ (source_found z p c f w m r k g (subst (λ (y : Input). Source (coded p c) (child f (λ y. Produces f y)) (child w (λ y. Produces w y)) y r) (sym v) h)) (λ u. u) (λ j. here (ap (λ (y : Span). import_decl y none f w) (sym e))))
     clause_found none m n k (inr v) h = bracketed m k left_brace_kind _ _ _ _ _ v.1.1.0 refl refl (rest_named [] none m v.0 k v.1 (n, v.2, h))
     clause_found (more (import_default_specifier q l) xs) m n k v h = let y = (ident_is l (coded p c) m v.1.0 v.1.1.0.0 v.1.1.0.1).2.0 in
         if_no (kind m == str_kind) _ _ _ _ (no_kind is_word (kind m) str_kind y refl) (if_yes (is_word (kind m)) _ _ _ _ y (after_default q l xs m v.1.0 v.0 k v.1.1 v.1.2 (n, v.2, h)))
     clause_found (more (import_star_as_specifier q l) xs) m n k v h = bracketed m k mul_kind _ _ _ _ _ v.1.1.2.0 refl refl
-        (subst (λ (y : Trees). Reads (from m k) (import_rest lm z.inner c (from start i) [] (from m k)) (Is (import_decl s (more (import_star_as_specifier q l) y) f w) r) (z.depth < attributed z.reach w)) (sym (empty_none xs v.1.0)) (rest_star [] q l m v.0 k v.1.1 (n, v.2, h)))
+        (subst (λ (y : Trees). Reads (from m k) (import_rest lm z.inner c (lo start) [] (from m k)) (Is (import_decl s (more (import_star_as_specifier q l) y) f w) r) (z.depth < attributed z.reach w)) (sym (empty_none xs v.1.0)) (rest_star [] q l m v.0 k v.1.1 (n, v.2, h)))
     clause_found (more x xs) m n k v h = bracketed m k left_brace_kind _ _ _ _ _ v.1.1.0 refl refl
-        (subst (λ (y : Trees). Reads (from m k) (import_rest lm z.inner c (from start i) [] (from m k)) (Is (import_decl s y f w) r) (z.depth < attributed z.reach w)) (pack_unpack (more x xs)) (rest_named [] (more x xs) m v.0 k v.1 (n, v.2, h)))
+        (subst (λ (y : Trees). Reads (from m k) (import_rest lm z.inner c (lo start) [] (from m k)) (Is (import_decl s y f w) r) (z.depth < attributed z.reach w)) (pack_unpack (more x xs)) (rest_named [] (more x xs) m v.0 k v.1 (n, v.2, h)))
 
   pub import_found : (s : Span) (xs : Trees) (f w : Tree) (ts r : Input) (k : List ℕ) → Attributed z.Covered w → Produces (import_decl s xs f w) (coded p c) ts r → Reads (from ts k) (import_decl_by lm z.inner c (from ts k)) (Is (import_decl s xs f w) r) (z.depth < attributed z.reach w)
   unfolding import_decl_by

@@ -80,7 +80,7 @@ module _ (z : Nested) (p : Bool) (c : Code) where
 
   rest_found : (start : Input) (i : List ℕ) (s : Span) (x t u b : Tree) (m n r : Input) (j : List ℕ) → z.Covered t → z.Covered u → z.Covered b → Takes (coded p c) semicolon_kind m n
       → ForRest (coded p c) (child t (λ y. Produces t y)) (child u (λ y. Produces u y)) (child b (λ y. Produces b y)) n r → leaves c.context b r ≡ true → s ≡ span (lo start) r.last
-      → Reads (from m j) (for_rest lm z.inner c (from start i) x (from m j)) (Is (for_stmt s x t u b) r) (z.depth < max (z.reach t) (max (z.reach u) (z.reach b)))
+      → Reads (from m j) (for_rest lm z.inner c (lo start) x (from m j)) (Is (for_stmt s x t u b) r) (z.depth < max (z.reach t) (max (z.reach u) (z.reach b)))
   unfolding for_rest
   rest_found start i s x t u b m n r j gt gu gb e h q w = then_eat semicolon_kind m n j _ _ _ e.0 e.2
       (then_is (clause_by lm z.inner c semicolon_kind (from n j)) _ t h.0 (z.depth < z.reach t) _ _ (clause_found semicolon_kind t n h.0 j refl refl refl refl gt h.2) (λ v. omega arith)
@@ -90,18 +90,18 @@ module _ (z : Nested) (p : Bool) (c : Code) where
   -- ---- `in` and `of`
 
   over_found : (l : ℕ) (make : Span → Tree → Tree → Tree) (start : Input) (i : List ℕ) (s : Span) (e b : Tree) (m n o r : Input) (j : List ℕ) → 1 ≤ l → l < 20 → Asked l → z.Covered e → z.Covered b → l ≤ level e → Produces e (coded p c) m n → Takes (coded p c) right_paren_kind n o
-      → Sub (coded p c) (child b (λ y. Produces b y)) o r → leaves c.context b r ≡ true → s ≡ span (lo start) r.last → Reads (from m j) (over_rest lm z.inner c l make (from start i) (from m j)) (Is (make s e b) r) (z.depth < max (z.reach e) (z.reach b))
+      → Sub (coded p c) (child b (λ y. Produces b y)) o r → leaves c.context b r ≡ true → s ≡ span (lo start) r.last → Reads (from m j) (over_rest lm z.inner c l make (lo start) (from m j)) (Is (make s e b) r) (z.depth < max (z.reach e) (z.reach b))
   unfolding over_rest
   over_found l make start i s e b m n o r j lo hi ask ge gb le h x y q w = then_is (z.inner.expr c l (from m j)) _ e n (z.depth < z.reach e) _ _ (z.expr e p c l m n j ge h lo hi ask le (halted c (ends e) l right_paren_kind n x.0 refl refl (λ _. refl) lo)) (λ v. omega arith)
       (λ k. then_eat right_paren_kind n o k _ _ _ x.0 x.2 (then_is (sub_by lm z.inner c false (from o k)) _ b r (z.depth < z.reach b) _ _ (stmt_found z p c b o r k gb y q) (λ v. omega arith) (λ k. built (λ d. make d e b) s start r k _ w)))
 
   in_found : (start : Input) (i : List ℕ) (s : Span) (x e b : Tree) (m r : Input) (j : List ℕ) → z.Covered e → z.Covered b → Over (coded p c) in_kind expression_level (child e (λ y. Produces e y)) (child b (λ y. Produces b y)) m r → leaves c.context b r ≡ true → s ≡ span (lo start) r.last
-      → Reads (from m j) (in_rest lm z.inner c (from start i) x (from m j)) (Is (for_in_stmt s x e b) r) (z.depth < max (z.reach e) (z.reach b))
+      → Reads (from m j) (in_rest lm z.inner c (lo start) x (from m j)) (Is (for_in_stmt s x e b) r) (z.depth < max (z.reach e) (z.reach b))
   unfolding in_rest
   in_found start i s x e b m r j ge gb h q w = then_word c in_kind m h.0 j _ _ _ h.3.0 h.3.1 h.3.3 (over_found 1 (λ d e b. for_in_stmt d x e b) start i s e b h.0 h.1 h.2 r j (omega arith) (omega arith) one_asked ge gb h.4.0 h.4.1 h.5 h.6 q w)
 
   of_found : (start : Input) (i : List ℕ) (s : Span) (a : Bool) (x e b : Tree) (m r : Input) (j : List ℕ) → z.Covered e → z.Covered b → Over (coded p c) of_kind assignment_level (child e (λ y. Produces e y)) (child b (λ y. Produces b y)) m r → leaves c.context b r ≡ true → s ≡ span (lo start) r.last
-      → Reads (from m j) (of_rest lm z.inner c (from start i) a x (from m j)) (Is (for_of_stmt s a x e b) r) (z.depth < max (z.reach e) (z.reach b))
+      → Reads (from m j) (of_rest lm z.inner c (lo start) a x (from m j)) (Is (for_of_stmt s a x e b) r) (z.depth < max (z.reach e) (z.reach b))
   unfolding of_rest
   of_found start i s a x e b m r j ge gb h q w = then_word c of_kind m h.0 j _ _ _ h.3.0 h.3.1 h.3.3 (over_found 2 (λ d e b. for_of_stmt d a x e b) start i s e b h.0 h.1 h.2 r j (omega arith) (omega arith) two_asked ge gb h.4.0 h.4.1 h.5 h.6 q w)
 
@@ -113,19 +113,19 @@ module _ (z : Nested) (p : Bool) (c : Code) where
 
   module _ (start : Input) (i : List ℕ) where
     declared_of : (s : Span) (a : Bool) (ds : Trees) (x e b : Tree) (m r : Input) (j : List ℕ) → OneBare (children ds) → z.Covered e → z.Covered b → Over (coded p c) of_kind assignment_level (child e (λ y. Produces e y)) (child b (λ y. Produces b y)) m r → leaves c.context b r ≡ true → s ≡ span (lo start) r.last
-        → Reads (from m j) (head_rest lm z.inner c (from start i) a (unpack ds) x (from m j)) (Is (for_of_stmt s a x e b) r) (z.depth < max (z.reach e) (z.reach b))
+        → Reads (from m j) (head_rest lm z.inner c (lo start) a (unpack ds) x (from m j)) (Is (for_of_stmt s a x e b) r) (z.depth < max (z.reach e) (z.reach b))
     unfolding head_rest
     declared_of s a ds x e b m r j o ge gb h q w = if_yes (kind m == of_kind) _ _ _ _ (eq-eqb (kind m) of_kind h.3.0) (if_yes (one_bare lm z.inner (unpack ds)) _ _ _ _ (bare_on z.inner ds o) (of_found start i s a x e b m r j ge gb h q w))
 
     declared_in : (s : Span) (ds : Trees) (x e b : Tree) (m r : Input) (j : List ℕ) → OneBare (children ds) → z.Covered e → z.Covered b → Over (coded p c) in_kind expression_level (child e (λ y. Produces e y)) (child b (λ y. Produces b y)) m r → leaves c.context b r ≡ true → s ≡ span (lo start) r.last
-        → Reads (from m j) (head_rest lm z.inner c (from start i) false (unpack ds) x (from m j)) (Is (for_in_stmt s x e b) r) (z.depth < max (z.reach e) (z.reach b))
+        → Reads (from m j) (head_rest lm z.inner c (lo start) false (unpack ds) x (from m j)) (Is (for_in_stmt s x e b) r) (z.depth < max (z.reach e) (z.reach b))
     unfolding head_rest
     declared_in s ds x e b m r j o ge gb h q w = if_no (kind m == of_kind) _ _ _ _ (subst (λ (k : ℕ). eqb k of_kind ≡ false) (sym h.3.0) refl)
         (if_yes (kind m == in_kind) _ _ _ _ (eq-eqb (kind m) in_kind h.3.0) (if_yes (one_bare lm z.inner (unpack ds)) _ _ _ _ (bare_on z.inner ds o) (in_found start i s x e b m r j ge gb h q w)))
 
     declared_rest : (s : Span) (ds : List Tree) (x t u b : Tree) (m n r : Input) (j : List ℕ) → z.Covered t → z.Covered u → z.Covered b → Takes (coded p c) semicolon_kind m n
         → ForRest (coded p c) (child t (λ y. Produces t y)) (child u (λ y. Produces u y)) (child b (λ y. Produces b y)) n r → leaves c.context b r ≡ true → s ≡ span (lo start) r.last
-        → Reads (from m j) (head_rest lm z.inner c (from start i) false ds x (from m j)) (Is (for_stmt s x t u b) r) (z.depth < max (z.reach t) (max (z.reach u) (z.reach b)))
+        → Reads (from m j) (head_rest lm z.inner c (lo start) false ds x (from m j)) (Is (for_stmt s x t u b) r) (z.depth < max (z.reach t) (max (z.reach u) (z.reach b)))
     unfolding head_rest
     declared_rest s ds x t u b m n r j gt gu gb e h q w = if_no (kind m == of_kind) _ _ _ _ (subst (λ (k : ℕ). eqb k of_kind ≡ false) (sym e.0) refl)
         (if_no (kind m == in_kind) _ _ _ _ (subst (λ (k : ℕ). eqb k in_kind ≡ false) (sym e.0) refl) (rest_found start i s x t u b m n r j gt gu gb e h q w))
@@ -134,26 +134,26 @@ module _ (z : Nested) (p : Bool) (c : Code) where
 
     module _ (a : Bool) (V : Tree × State Input → Type 0) (Q : Type 0) where
       variables_head : (own : Span) (o : ℕ) (ds : Trees) (m n : Input) (j : List ℕ) → Withins z.Covered ds → Bindings (without_in (coded p c)) o (children ds) m n → own ≡ span (lo m) n.last → Settled (without_in c) (declarators_end ds) n → (z.depth < withins z.reach ds → Q)
-          → ((k : List ℕ) → Reads (from n k) (head_rest lm z.inner c (from start i) a (unpack ds) (var_decl own o ds) (from n k)) V Q) → Reads (from m j) (for_head lm z.inner c (from start i) a (from m j)) V Q
+          → ((k : List ℕ) → Reads (from n k) (head_rest lm z.inner c (lo start) a (unpack ds) (var_decl own o ds) (from n k)) V Q) → Reads (from m j) (for_head lm z.inner c (lo start) a (from m j)) V Q
       unfolding for_head for_variables
       variables_head own o ds m n j g h w t f y =
           if_no (kind m == semicolon_kind) _ _ _ _ (no_semicolon h.1) (if_yes ((kind m == var_kind) || ((kind m == const_kind) || starts_let lm z.inner (from m j))) _ _ _ _ (var_on z.inner o m h.0 j h.1 h.2.0 h.2.3 (declarators_start ds _ h.0 n h.3))
           (then_word c (kind m) m h.0 j _ _ _ refl h.2.1 h.2.3 (then_is (declarators_by lm z.inner (without_in c) (from h.0 j)) _ (unpack ds) n (z.depth < withins z.reach ds) _ _ (declarators_found z p (without_in c) ds h.0 n j g h.3 t) f
-          (λ k. subst (λ (x : Tree). Reads (from n k) (head_rest lm z.inner c (from start i) a (unpack ds) x (from n k)) V Q)
+          (λ k. subst (λ (x : Tree). Reads (from n k) (head_rest lm z.inner c (lo start) a (unpack ds) x (from n k)) V Q)
           (ap (λ (x : Span). var_decl x o ds) w ∙ ap (λ (x : ℕ). var_decl (span (lo m) n.last) x ds) (sym h.2.0) ∙ ap (λ (x : Trees). var_decl (span (lo m) n.last) (kind m) x) (sym (pack_unpack ds))) (y k)))))
         where
           no_semicolon : is_var_word o ≡ true → eqb (kind m) semicolon_kind ≡ false
           no_semicolon v = ne_eqb (kind m) semicolon_kind (λ q. true≢false (sym v ∙ ap is_var_word (sym h.2.0 ∙ q)))
 
       using_rest : (own : Span) (v : Bool) (ds : Trees) (l m n o : Input) (k j : List ℕ) → Withins z.Covered ds → TakesWord (without_in (coded p c)) using_kind m n → Commas (Sorted is_declarator (without_in (coded p c))) (without_in (coded p c)) (children ds) n o → own ≡ span (lo l) o.last
-          → Settled (without_in c) (declarators_end ds) o → (z.depth < withins z.reach ds → Q) → ((k : List ℕ) → Reads (from o k) (head_rest lm z.inner c (from start i) a (unpack ds) (using_decl own v ds) (from o k)) V Q)
-          → Reads (from m j) (for_using lm z.inner c (from start i) a (from l k) v (from m j)) V Q
+          → Settled (without_in c) (declarators_end ds) o → (z.depth < withins z.reach ds → Q) → ((k : List ℕ) → Reads (from o k) (head_rest lm z.inner c (lo start) a (unpack ds) (using_decl own v ds) (from o k)) V Q)
+          → Reads (from m j) (for_using lm z.inner c (lo start) a (lo l) v (from m j)) V Q
       unfolding for_using
       using_rest own v ds l m n o k j g e h w t f y = then_word c using_kind m n j _ _ _ e.0 e.1 e.3 (then_is (declarators_by lm z.inner (without_in c) (from n j)) _ (unpack ds) o (z.depth < withins z.reach ds) _ _ (declarators_found z p (without_in c) ds n o j g h t) f
-          (λ k. subst (λ (x : Tree). Reads (from o k) (head_rest lm z.inner c (from start i) a (unpack ds) x (from o k)) V Q) (ap (λ (x : Span). using_decl x v ds) w ∙ ap (λ (x : Trees). using_decl (span (lo l) o.last) v x) (sym (pack_unpack ds))) (y k)))
+          (λ k. subst (λ (x : Tree). Reads (from o k) (head_rest lm z.inner c (lo start) a (unpack ds) x (from o k)) V Q) (ap (λ (x : Span). using_decl x v ds) w ∙ ap (λ (x : Trees). using_decl (span (lo l) o.last) v x) (sym (pack_unpack ds))) (y k)))
 
       using_head : (own : Span) (v : Bool) (ds : Trees) (m n : Input) (j : List ℕ) → Withins z.Covered ds → head_using v m ≡ true → UsingBindings (without_in (coded p c)) v (children ds) m n → own ≡ span (lo m) n.last → Settled (without_in c) (declarators_end ds) n
-          → (z.depth < withins z.reach ds → Q) → ((k : List ℕ) → Reads (from n k) (head_rest lm z.inner c (from start i) a (unpack ds) (using_decl own v ds) (from n k)) V Q) → Reads (from m j) (for_head lm z.inner c (from start i) a (from m j)) V Q
+          → (z.depth < withins z.reach ds → Q) → ((k : List ℕ) → Reads (from n k) (head_rest lm z.inner c (lo start) a (unpack ds) (using_decl own v ds) (from n k)) V Q) → Reads (from m j) (for_head lm z.inner c (lo start) a (from m j)) V Q
       unfolding for_head
       using_head own false ds m n j g nf h w t f y =
           if_no (kind m == semicolon_kind) _ _ _ _ (is_no semicolon_kind h.2.0 refl) (if_no ((kind m == var_kind) || ((kind m == const_kind) || starts_let lm z.inner (from m j))) _ _ _ _
@@ -169,13 +169,13 @@ module _ (z : Nested) (p : Bool) (c : Code) where
           (if_no (starts_using lm z.inner c (from m j) && not (kind2 m == of_kind)) _ _ _ _ (and_left (starts_using lm z.inner c (from m j)) _ (and_right c.syntax.explicit_resource_management _ (and_left (kind m == using_kind) _ (is_no using_kind h.4.0 refl))))
           (if_yes (starts_await_using lm z.inner c (from m j) && not (kind2 (rest m) == of_kind)) _ _ _ _
           (and_from (starts_await_using lm z.inner c (from m j)) _ (await_on z.inner c m h.0 j h.3 h.4.0 h.4.1 h.4.3 h.5 (using_on z.inner c h.0 h.1 j h.2 h.6.0 h.6.3 h.7 h.8 (declarators_start ds _ h.1 n h.9))) nf)
-          (onto m h.0 j (λ x. for_using lm z.inner c (from start i) a (from m j) true x) V Q h.4.3 (using_rest own true ds m h.0 h.1 n j j g h.6 h.9 w t f y)))))
+          (onto m h.0 j (λ x. for_using lm z.inner c (lo start) a (lo m) true x) V Q h.4.3 (using_rest own true ds m h.0 h.1 n j j g h.6 h.9 w t f y)))))
         where
           is_no : (k : ℕ) → kind m ≡ await_kind → eqb await_kind k ≡ false → eqb (kind m) k ≡ false
           is_no k q e = subst (λ (x : ℕ). eqb x k ≡ false) (sym q) e
 
       -- an expression or a target, which starts no declaration
-      expression_head : {t : Tree} (m n : Input) (j : List ℕ) → Opening c.context t m n → starts_head m ≡ true → Closes n → (kind m ≡ let_kind → may_name (kind n) ≡ false) → Reads (from m j) (for_expression lm z.inner c (from start i) a (from m j)) V Q → Reads (from m j) (for_head lm z.inner c (from start i) a (from m j)) V Q
+      expression_head : {t : Tree} (m n : Input) (j : List ℕ) → Opening c.context t m n → starts_head m ≡ true → Closes n → (kind m ≡ let_kind → may_name (kind n) ≡ false) → Reads (from m j) (for_expression lm z.inner c (lo start) a (from m j)) V Q → Reads (from m j) (for_head lm z.inner c (lo start) a (from m j)) V Q
       unfolding for_head
       expression_head m n j o s e l y =
           if_no (kind m == semicolon_kind) _ _ _ _ (no_open (kind m) semicolon_kind o.first refl) (if_no ((kind m == var_kind) || ((kind m == const_kind) || starts_let lm z.inner (from m j))) _ _ _ _
@@ -196,7 +196,7 @@ module _ (z : Nested) (p : Bool) (c : Code) where
 
     expressed : (s : Span) (x t u b : Tree) (m n o r : Input) (j : List ℕ) → z.Covered x → z.Covered t → z.Covered u → z.Covered b → starts_head m ≡ true → 1 ≤ level x → Produces x (coded p (without_in c)) m n → Takes (coded p c) semicolon_kind n o
         → ForRest (coded p c) (child t (λ y. Produces t y)) (child u (λ y. Produces u y)) (child b (λ y. Produces b y)) o r → leaves c.context b r ≡ true → s ≡ span (lo start) r.last
-        → Reads (from m j) (for_expression lm z.inner c (from start i) false (from m j)) (Is (for_stmt s x t u b) r) (z.depth < max (z.reach x) (max (z.reach t) (max (z.reach u) (z.reach b))))
+        → Reads (from m j) (for_expression lm z.inner c (lo start) false (from m j)) (Is (for_stmt s x t u b) r) (z.depth < max (z.reach x) (max (z.reach t) (max (z.reach u) (z.reach b))))
     unfolding for_expression for_expression_rest
     expressed s x t u b m n o r j gx gt gu gb sh le v e h q w = if_no ((kind m == let_kind) && (kind2 m == left_bracket_kind)) _ _ _ _ (not-true _ sh)
         (then_is (z.inner.expr (without_in c) expression_level (from m j)) _ x n (z.depth < z.reach x) _ _ (one_found z p (without_in c) x m n j gx le v (halted (without_in c) (ends x) 1 semicolon_kind n e.0 refl refl (λ _. refl) (omega arith))) (λ d. omega arith)
@@ -204,44 +204,44 @@ module _ (z : Nested) (p : Bool) (c : Code) where
         (lifted (rest_found start i s x t u b n o r k gt gu gb e h q w) (λ d. omega arith)))))
 
     targeted_in : (s : Span) (x e b : Tree) (m n r : Input) (j : List ℕ) → z.Covered x → z.Covered e → z.Covered b → HeadTarget (coded p c) (child x (λ y. Produces x y)) m n → Over (coded p c) in_kind expression_level (child e (λ y. Produces e y)) (child b (λ y. Produces b y)) n r
-        → leaves c.context b r ≡ true → s ≡ span (lo start) r.last → Reads (from m j) (for_expression lm z.inner c (from start i) false (from m j)) (Is (for_in_stmt s x e b) r) (z.depth < max (z.reach x) (max (z.reach e) (z.reach b)))
+        → leaves c.context b r ≡ true → s ≡ span (lo start) r.last → Reads (from m j) (for_expression lm z.inner c (lo start) false (from m j)) (Is (for_in_stmt s x e b) r) (z.depth < max (z.reach x) (max (z.reach e) (z.reach b)))
     unfolding for_expression for_expression_rest
     targeted_in s x e b m n r j gx ge gb h v q w = if_no ((kind m == let_kind) && (kind2 m == left_bracket_kind)) _ _ _ _ (not-true _ h.0)
         (then_reads (z.inner.expr (without_in c) expression_level (from m j)) _ (IsHead x n) (z.depth < z.reach x) _ _ (z.head x p (without_in c) m n j gx h.1 h.2 (λ d u. halted (without_in c) d 1 in_kind n v.3.0 refl refl (λ _. refl) (omega arith))) (λ d. omega arith)
-        (λ y u. subst (λ (k : Input). Reads (from k y.1.commas) (for_expression_rest lm z.inner c (from start i) false (from m j) y.0 (from k y.1.commas)) (Is (for_in_stmt s x e b) r) (z.depth < max (z.reach x) (max (z.reach e) (z.reach b)))) (sym u.1)
+        (λ y u. subst (λ (k : Input). Reads (from k y.1.commas) (for_expression_rest lm z.inner c (lo start) false (from m j) y.0 (from k y.1.commas)) (Is (for_in_stmt s x e b) r) (z.depth < max (z.reach x) (max (z.reach e) (z.reach b)))) (sym u.1)
         (if_no (kind n == of_kind) _ _ _ _ (subst (λ (k : ℕ). eqb k of_kind ≡ false) (sym v.3.0) refl) (if_yes (kind n == in_kind) _ _ _ _ (eq-eqb (kind n) in_kind v.3.0)
         (rw u.0 (lifted (in_found start i s x e b n r y.1.commas ge gb v q w) (λ d. omega arith)))))))
 
     targeted_of : (s : Span) (a : Bool) (x e b : Tree) (m n r : Input) (j : List ℕ) → z.Covered x → z.Covered e → z.Covered b → OfTarget (coded p c) a (child x (λ y. Produces x y)) m n → Over (coded p c) of_kind assignment_level (child e (λ y. Produces e y)) (child b (λ y. Produces b y)) n r
-        → leaves c.context b r ≡ true → s ≡ span (lo start) r.last → Reads (from m j) (for_expression lm z.inner c (from start i) a (from m j)) (Is (for_of_stmt s a x e b) r) (z.depth < max (z.reach x) (max (z.reach e) (z.reach b)))
+        → leaves c.context b r ≡ true → s ≡ span (lo start) r.last → Reads (from m j) (for_expression lm z.inner c (lo start) a (from m j)) (Is (for_of_stmt s a x e b) r) (z.depth < max (z.reach x) (max (z.reach e) (z.reach b)))
     unfolding for_expression for_expression_rest
     targeted_of s a x e b m n r j gx ge gb h v q w = if_no ((kind m == let_kind) && (kind2 m == left_bracket_kind)) _ _ _ _ (not-true _ h.1.0)
         (then_reads (z.inner.expr (without_in c) expression_level (from m j)) _ (IsHead x n) (z.depth < z.reach x) _ _ (z.head x p (without_in c) m n j gx h.1.1 h.1.2 (λ d u. of_follows (without_in c) d n u v.3.0 (of_arrow e b n r v))) (λ d. omega arith)
-        (λ y u. subst (λ (k : Input). Reads (from k y.1.commas) (for_expression_rest lm z.inner c (from start i) a (from m j) y.0 (from k y.1.commas)) (Is (for_of_stmt s a x e b) r) (z.depth < max (z.reach x) (max (z.reach e) (z.reach b)))) (sym u.1)
+        (λ y u. subst (λ (k : Input). Reads (from k y.1.commas) (for_expression_rest lm z.inner c (lo start) a (from m j) y.0 (from k y.1.commas)) (Is (for_of_stmt s a x e b) r) (z.depth < max (z.reach x) (max (z.reach e) (z.reach b)))) (sym u.1)
         (if_yes (kind n == of_kind) _ _ _ _ (eq-eqb (kind n) of_kind v.3.0) (if_no ((kind m == let_kind) || (not a && ((kind m == async_kind) && (kind2 m == of_kind)))) _ _ _ _ (not-true _ h.0)
         (rw u.0 (lifted (of_found start i s a x e b n r y.1.commas ge gb v q w) (λ d. omega arith)))))))
 
   -- ---- the statements
 
   module _ (ts : Input) (k : List ℕ) (V : Tree × State Input → Type 0) (Q : Type 0) where
-    opened : (m : Input) → ForOpen (coded p c) ts m → ((j : List ℕ) → Reads (from m j) (for_head lm z.inner c (from ts k) false (from m j)) V Q) → Reads (from ts k) (for_by lm z.inner c (from ts k)) V Q
+    opened : (m : Input) → ForOpen (coded p c) ts m → ((j : List ℕ) → Reads (from m j) (for_head lm z.inner c (lo ts) false (from m j)) V Q) → Reads (from ts k) (for_by lm z.inner c (from ts k)) V Q
     unfolding for_by
     opened m h y = then_word c for_kind ts h.0 k _ _ _ h.1.0 h.1.1 h.1.3 (if_no (kind h.0 == await_kind) _ _ _ _ (subst (λ (x : ℕ). eqb x await_kind ≡ false) (sym h.2.0) refl) (then_eat left_paren_kind h.0 m k _ _ _ h.2.0 h.2.2 (y k)))
 
-    await_opened : (a : Bool) (m : Input) → ForAwaitOpen a (coded p c) ts m → ((j : List ℕ) → Reads (from m j) (for_head lm z.inner c (from ts k) a (from m j)) V Q) → Reads (from ts k) (for_by lm z.inner c (from ts k)) V Q
+    await_opened : (a : Bool) (m : Input) → ForAwaitOpen a (coded p c) ts m → ((j : List ℕ) → Reads (from m j) (for_head lm z.inner c (lo ts) a (from m j)) V Q) → Reads (from ts k) (for_by lm z.inner c (from ts k)) V Q
     unfolding for_by
     await_opened false m h y = opened m h y
     await_opened true m h y = then_word c for_kind ts h.0 k _ _ _ h.3.0 h.3.1 h.3.3 (if_yes (kind h.0 == await_kind) _ _ _ _ (eq-eqb (kind h.0) await_kind h.4.0) (if_yes c.context.in_async _ _ _ _ h.2
         (then_word c await_kind h.0 h.1 k _ _ _ h.4.0 h.4.1 h.4.3 (then_eat left_paren_kind h.1 m k _ _ _ h.5.0 h.5.2 (y k)))))
 
   module _ (ts : Input) (k : List ℕ) (r : Input) where
-    semicolon_head : (m : Input) (j : List ℕ) (V : Tree × State Input → Type 0) (Q : Type 0) → kind m ≡ semicolon_kind → Reads (from m j) (for_rest lm z.inner c (from ts k) absent (from m j)) V Q → Reads (from m j) (for_head lm z.inner c (from ts k) false (from m j)) V Q
+    semicolon_head : (m : Input) (j : List ℕ) (V : Tree × State Input → Type 0) (Q : Type 0) → kind m ≡ semicolon_kind → Reads (from m j) (for_rest lm z.inner c (lo ts) absent (from m j)) V Q → Reads (from m j) (for_head lm z.inner c (lo ts) false (from m j)) V Q
     unfolding for_head
     semicolon_head m j V Q e y = if_yes (kind m == semicolon_kind) _ _ _ _ (eq-eqb (kind m) semicolon_kind e) y
 
     empty_found : (s : Span) (t u b : Tree) (m n o : Input) → z.Covered t → z.Covered u → z.Covered b → ForOpen (coded p c) ts m → m ≡ n → Takes (coded p c) semicolon_kind n o → ForRest (coded p c) (child t (λ y. Produces t y)) (child u (λ y. Produces u y)) (child b (λ y. Produces b y)) o r
         → leaves c.context b r ≡ true → s ≡ span (lo ts) r.last → Reads (from ts k) (for_by lm z.inner c (from ts k)) (Is (for_stmt s absent t u b) r) (z.depth < max (z.reach t) (max (z.reach u) (z.reach b)))
-    empty_found s t u b m n o gt gu gb h e v f q w = opened ts k _ _ m h (λ j. subst (λ (y : Input). Reads (from y j) (for_head lm z.inner c (from ts k) false (from y j)) (Is (for_stmt s absent t u b) r) (z.depth < max (z.reach t) (max (z.reach u) (z.reach b)))) (sym e)
+    empty_found s t u b m n o gt gu gb h e v f q w = opened ts k _ _ m h (λ j. subst (λ (y : Input). Reads (from y j) (for_head lm z.inner c (lo ts) false (from y j)) (Is (for_stmt s absent t u b) r) (z.depth < max (z.reach t) (max (z.reach u) (z.reach b)))) (sym e)
         (semicolon_head n j _ _ v.0 (rest_found ts k s absent t u b n o r j gt gu gb v f q w)))
 
     pub plain_found : (s : Span) (x t u b : Tree) → z.Covered x × z.Covered t × z.Covered u × z.Covered b → ForExpression (coded p c) s (child x (λ y. Produces x y)) (child t (λ y. Produces t y)) (child u (λ y. Produces u y)) (child b (λ y. Produces b y)) ts r → leaves c.context b r ≡ true

@@ -46,12 +46,12 @@ abbrev pub Lists : Inner Input → Code → Trees → Input → Input → Type 0
 Lists inner c xs m r P = (h : List ℕ) → Reads (from m h) (elements_by lm inner c false right_paren_kind (from m h)) (Has (unpack xs) r) P
 
 module _ (inner : Inner Input) (c : Code) (ts : Input) (k : List ℕ) (a : Tree) (m : Input) (j : List ℕ) {Q : Type 0} where
-  pub dotted_member : (p : Code) (s : Span) (x : Tree) (r : Input) → Dotted true p (child x (λ y. Produces x y)) m r → s ≡ span (lo ts) r.last → Reads (from m j) (member_by lm inner c (from ts k) a (from m j)) (Is (on_chain lm inner (is_chain a) s (member_expr s a x)) r) Q
+  pub dotted_member : (p : Code) (s : Span) (x : Tree) (r : Input) → Dotted true p (child x (λ y. Produces x y)) m r → s ≡ span (lo ts) r.last → Reads (from m j) (member_by lm inner c (lo ts) a (from m j)) (Is (on_chain lm inner (is_chain a) s (member_expr s a x)) r) Q
   unfolding member_by
   dotted_member p s x r h e = then_past m h.0 j (member_name lm inner true) _ x r Q _ Q h.1.2 (accessed inner true p x h.0 r j h.2) (λ z. z) (λ l. here (ap (λ (z : Span). on_chain lm inner (is_chain a) z (member_expr z a x)) (sym e)))
 
   pub indexed : (s t : Span) (e : Tree) (n o r : Input) (P : Type 0) → rest m ≡ n → ((h : List ℕ) → Reads (from n h) (inner.expr (with_in c) expression_level (from n h)) (Is e o) P) → (P → Q) → kind o ≡ 10 → rest o ≡ r
-      → t ≡ span (lo m) r.last → s ≡ span (lo ts) r.last → Reads (from m j) (index_by lm inner c (from ts k) a (from m j)) (Is (on_chain lm inner (is_chain a) s (member_expr s a (computed_prop_name t e))) r) Q
+      → t ≡ span (lo m) r.last → s ≡ span (lo ts) r.last → Reads (from m j) (index_by lm inner c (lo ts) a (from m j)) (Is (on_chain lm inner (is_chain a) s (member_expr s a (computed_prop_name t e))) r) Q
   unfolding index_by
   indexed s t e n o r P q y i x v u p = then_is (computed_by lm inner c expression_level (from m j)) _ (computed_prop_name t e) r Q _ Q (computed_found inner c ts k a m j Q expression_level t e n o r P q y i x v u) (λ z. z)
       (λ l. here (ap (λ (z : Span). on_chain lm inner (is_chain a) z (member_expr z a (computed_prop_name t e))) (sym p)))
@@ -61,34 +61,34 @@ module _ (inner : Inner Input) (c : Code) (ts : Input) (k : List ℕ) (a : Tree)
   unfolding arguments_by
   listed f s xs n r P q y i p = then_past m n j (arguments_by lm inner c) _ (unpack xs) r P _ Q q (then_reads _ _ _ P _ P (y j) (λ z. z) (λ x h. ended (x.0.items, x.1) _ P h)) i (λ l. here (ap (λ (z : Span). f z (unpack xs)) (sym p)))
 
-  pub called : (s : Span) (xs : Trees) (n r : Input) (P : Type 0) → rest m ≡ n → Lists inner c xs n r P → (P → Q) → s ≡ span (lo ts) r.last → Reads (from m j) (call_by lm inner c (from ts k) a (from m j)) (Is (call_tree lm inner s a (unpack xs)) r) Q
+  pub called : (s : Span) (xs : Trees) (n r : Input) (P : Type 0) → rest m ≡ n → Lists inner c xs n r P → (P → Q) → s ≡ span (lo ts) r.last → Reads (from m j) (call_by lm inner c (lo ts) a (from m j)) (Is (call_tree lm inner s a (unpack xs)) r) Q
   unfolding call_by
   called s xs n r P q y i p = listed (λ z ys. call_tree lm inner z a ys) s xs n r P q y i p
 
   -- after `?.`
   pub chain_name : (p : Code) (s : Span) (x : Tree) (r : Input) → AccessedName true p (child x (λ y. Produces x y)) m r → s ≡ span (lo ts) r.last → (kind m ≡ left_paren_kind → ⊥) → (kind m ≡ left_bracket_kind → ⊥)
-      → Reads (from m j) (chain_by lm inner c (from ts k) a (from m j)) (Is (opt_chain_expr s true (member_expr s a x)) r) Q
+      → Reads (from m j) (chain_by lm inner c (lo ts) a (from m j)) (Is (opt_chain_expr s true (member_expr s a x)) r) Q
   unfolding chain_by
   chain_name p s x r h e u v = if_no (eqb (kind m) left_paren_kind) _ _ _ _ (ne_eqb (kind m) left_paren_kind u) (if_no (eqb (kind m) left_bracket_kind) _ _ _ _ (ne_eqb (kind m) left_bracket_kind v)
       (then_is (member_name lm inner true (from m j)) _ x r Q _ Q (accessed inner true p x m r j h) (λ z. z) (λ l. here (ap (λ (z : Span). opt_chain_expr z true (member_expr z a x)) (sym e)))))
 
   pub chain_index : (s t : Span) (e : Tree) (n o r : Input) (P : Type 0) → kind m ≡ left_bracket_kind → rest m ≡ n → ((h : List ℕ) → Reads (from n h) (inner.expr (with_in c) expression_level (from n h)) (Is e o) P) → (P → Q) → kind o ≡ 10 → rest o ≡ r
-      → t ≡ span (lo m) r.last → s ≡ span (lo ts) r.last → Reads (from m j) (chain_by lm inner c (from ts k) a (from m j)) (Is (opt_chain_expr s true (member_expr s a (computed_prop_name t e))) r) Q
+      → t ≡ span (lo m) r.last → s ≡ span (lo ts) r.last → Reads (from m j) (chain_by lm inner c (lo ts) a (from m j)) (Is (opt_chain_expr s true (member_expr s a (computed_prop_name t e))) r) Q
   unfolding chain_by
   chain_index s t e n o r P g q y i x v u p = rw g (then_is (computed_by lm inner c expression_level (from m j)) _ (computed_prop_name t e) r Q _ Q (computed_found inner c ts k a m j Q expression_level t e n o r P q y i x v u) (λ z. z)
       (λ l. here (ap (λ (z : Span). opt_chain_expr z true (member_expr z a (computed_prop_name t e))) (sym p))))
 
-  pub chain_call : (s : Span) (xs : Trees) (n r : Input) (P : Type 0) → kind m ≡ left_paren_kind → rest m ≡ n → Lists inner c xs n r P → (P → Q) → s ≡ span (lo ts) r.last → Reads (from m j) (chain_by lm inner c (from ts k) a (from m j)) (Is (opt_chain_expr s true (opt_call s a xs)) r) Q
+  pub chain_call : (s : Span) (xs : Trees) (n r : Input) (P : Type 0) → kind m ≡ left_paren_kind → rest m ≡ n → Lists inner c xs n r P → (P → Q) → s ≡ span (lo ts) r.last → Reads (from m j) (chain_by lm inner c (lo ts) a (from m j)) (Is (opt_chain_expr s true (opt_call s a xs)) r) Q
   unfolding chain_by
   chain_call s xs n r P g q y i p = rw g (subst (λ (ys : Trees). Reads (from m j) (arguments_by lm inner c (from (rest m) j) >>= λ x. Ok (opt_chain_expr (span (lo ts) x.1.source.last) true (opt_call (span (lo ts) x.1.source.last) a (pack x.0)), x.1)) (Is (opt_chain_expr s true (opt_call s a ys)) r) Q) (pack_unpack xs)
       (listed (λ z ys. opt_chain_expr z true (opt_call z a (pack ys))) s xs n r P q y i p))
 
 module _ (inner : Inner Input) (c : Code) (start : State Input) (a : Tree) (m : Input) (j : List ℕ) (V : Tree × State Input → Type 0) (Q : Type 0) where
-  pub step_chain : kind m ≡ question_mark_kind → kind2 m ≡ dot_kind → 19 ≤ level a → Reads (from (rest (rest m)) j) (chain_by lm inner c start a (from (rest (rest m)) j)) V Q → Reads (from m j) (step_by lm inner c start a (from m j)) V Q
+  pub step_chain : kind m ≡ question_mark_kind → kind2 m ≡ dot_kind → 19 ≤ level a → Reads (from (rest (rest m)) j) (chain_by lm inner c (lo start.source) a (from (rest (rest m)) j)) V Q → Reads (from m j) (step_by lm inner c (lo start.source) a (from m j)) V Q
   unfolding step_by
   step_chain e d le y = rw e (if_yes (kind2 m == dot_kind) _ _ V Q (eq-eqb (kind2 m) dot_kind d) (if_yes (leb 19 (level a)) _ _ V Q (le-leb 19 (level a) le) (after_one (from m j) _ V Q (after_one (from (rest m) j) _ V Q y))))
 
-  pub step_template : kind m ≡ back_quote_kind → 19 ≤ level a → is_chain a ≡ false → Reads (from m j) (template_by lm inner c true (from m j) >>= λ q. Ok (tagged_tpl (span (lo (start.source)) q.1.source.last) a q.0, q.1)) V Q → Reads (from m j) (step_by lm inner c start a (from m j)) V Q
+  pub step_template : kind m ≡ back_quote_kind → 19 ≤ level a → is_chain a ≡ false → Reads (from m j) (template_by lm inner c true (from m j) >>= λ q. Ok (tagged_tpl (span (lo start.source) q.1.source.last) a q.0, q.1)) V Q → Reads (from m j) (step_by lm inner c (lo start.source) a (from m j)) V Q
   unfolding step_by
   step_template e le n y = rw e (if_no (not (leb 19 (level a))) _ _ V Q (ap not (le-leb 19 (level a) le)) (if_yes (not (is_chain a)) _ _ V Q (ap not n) y))
 

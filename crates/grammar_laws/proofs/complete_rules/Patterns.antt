@@ -63,7 +63,7 @@ module _ (z d : ℕ) (f : Finds z d) (b : Binds z d) (p : Bool) (c : Code) where
 
   -- an item with what goes on after it
   item_then : {B : Type 0} (x : Tree) (ts m : Input) (k : List ℕ) (F : Tree × State Input → Result (B × State Input) Fault) (W : B × State Input → Type 0) (Q : Type 0) → size x < z → Covered x → Item (patterned p c) (child x (λ y. Produces x y)) ts m → is_rest x ≡ false → Closed (with_in c) m
-      → (d < reach x → Q) → ((j : List ℕ) → Reads (from m j) (F (x, from m j)) W Q) → Reads (from ts k) (inner.pat (with_in c) (from ts k) >>= λ y. initial_pat lm inner c (from ts k) y.0 y.1 >>= F) W Q
+      → (d < reach x → Q) → ((j : List ℕ) → Reads (from m j) (F (x, from m j)) W Q) → Reads (from ts k) (inner.pat (with_in c) (from ts k) >>= λ y. initial_pat lm inner c (lo ts) y.0 y.1 >>= F) W Q
   unfolding initial_pat
   item_then (assign_pat s a e) ts m k F W Q sz g h n cl i y =
       then_is (inner.pat (with_in c) (from ts k)) _ a h.1.0 (d < reach a) W Q (b a p (with_in c) ts h.1.0 k (omega arith) g.0 (place_binds a h.1.2) h.1.3) (λ u. i (omega arith))
@@ -74,7 +74,7 @@ module _ (z d : ℕ) (f : Finds z d) (b : Binds z d) (p : Bool) (c : Code) where
   item_then (binding_ident s x) ts m k F W Q sz g h n cl i y = bare (binding_ident s x) refl sz g h.1 cl i y
     where
       bare : (x : Tree) → is_binding x ≡ true → size x < z → Covered x → Produces x (patterned p (with_in c)) ts m → Closed (with_in c) m → (d < reach x → Q) → ((j : List ℕ) → Reads (from m j) (F (x, from m j)) W Q)
-          → Reads (from ts k) (inner.pat (with_in c) (from ts k) >>= λ y. initial_pat lm inner c (from ts k) y.0 y.1 >>= F) W Q
+          → Reads (from ts k) (inner.pat (with_in c) (from ts k) >>= λ y. initial_pat lm inner c (lo ts) y.0 y.1 >>= F) W Q
       bare x e sz g h cl i y = then_is (inner.pat (with_in c) (from ts k)) _ x m (d < reach x) W Q (b x p (with_in c) ts m k sz g e h) i (λ j. rw (ne_eqb (kind m) assign_kind cl.1) (y j))
   item_then (array_pat s x) ts m k F W Q sz g h n cl i y = then_is (inner.pat (with_in c) (from ts k)) _ (array_pat s x) m (d < reach (array_pat s x)) W Q (b (array_pat s x) p (with_in c) ts m k sz g refl h.1) i (λ j. rw (ne_eqb (kind m) assign_kind cl.1) (y j))
   item_then (object_pat s x) ts m k F W Q sz g h n cl i y = then_is (inner.pat (with_in c) (from ts k)) _ (object_pat s x) m (d < reach (object_pat s x)) W Q (b (object_pat s x) p (with_in c) ts m k sz g refl h.1) i (λ j. rw (ne_eqb (kind m) assign_kind cl.1) (y j))
@@ -155,7 +155,7 @@ module _ (z d : ℕ) (f : Finds z d) (b : Binds z d) (p : Bool) (c : Code) where
   prop_keyed : (s : Span) (x a : Tree) (ts m : Input) (k : List ℕ) → size x < z → size a < z → Covered x → Covered a → Produces (key_value_pat_prop s x a) (patterned p (with_in c)) ts m → is_rest a ≡ false → Closed (with_in c) m → PropRead (key_value_pat_prop s x a) ts m k
   unfolding pattern_prop keyed_item
   prop_keyed s x a ts m k sx sa gx ga h n cl = then_is (key_by lm inner c (from ts k)) _ x h.0 (d < reach x) _ _ (key_found z d f p c x ts h.0 k sx gx h.2.0 (coded p (with_in c)) refl h.2.1) (λ u. omega arith)
-      (λ j. if_yes (eqb (kind h.0) colon_kind) _ _ _ _ (eq-eqb (kind h.0) colon_kind h.3.0) (onto h.0 h.1 j (λ y. inner.pat (with_in c) y >>= λ q. initial_pat lm inner c y q.0 q.1 >>= λ q. Ok (key_value_pat_prop (span (lo ts) q.1.source.last) x q.0, q.1)) _ _ h.3.2
+      (λ j. if_yes (eqb (kind h.0) colon_kind) _ _ _ _ (eq-eqb (kind h.0) colon_kind h.3.0) (onto h.0 h.1 j (λ y. inner.pat (with_in c) y >>= λ q. initial_pat lm inner c (lo y.source) q.0 q.1 >>= λ q. Ok (key_value_pat_prop (span (lo ts) q.1.source.last) x q.0, q.1)) _ _ h.3.2
       (item_then a h.1 m j (λ q. Ok (key_value_pat_prop (span (lo ts) q.1.source.last) x q.0, q.1)) _ _ sa ga h.4 n cl (λ u. omega arith) (λ i. here (ap (λ (y : Span). key_value_pat_prop y x a) (sym h.6))))))
 
   named_span : (ts a : Input) (q t : Span) (x : List ℕ) → Produces (binding_ident q (ident t x)) (patterned p (with_in c)) ts a → binding_ident (first_span ts) (ident (first_span ts) x) ≡ binding_ident q (ident t x)

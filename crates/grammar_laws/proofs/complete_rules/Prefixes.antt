@@ -148,7 +148,7 @@ module _ (inner : Inner Input) (c : Code) (lev : ℕ) (ts : Input) (k : List ℕ
 
   -- ---- names
 
-  ident_ends : (s : Span) (n : List ℕ) (r : Input) → rest ts ≡ r → text ts ≡ n → s ≡ span (lo ts) r.last → (lev ≤ assignment_level → arrowed r ≡ false) → Reads (from r k) (ident_end lm inner c lev (from ts k) n (from r k)) (Is (ident s n) r) Q
+  ident_ends : (s : Span) (n : List ℕ) (r : Input) → rest ts ≡ r → text ts ≡ n → s ≡ span (lo ts) r.last → (lev ≤ assignment_level → arrowed r ≡ false) → Reads (from r k) (ident_end lm inner c lev (first_span ts) n (from r k)) (Is (ident s n) r) Q
   unfolding ident_end
   ident_ends s n r q t p a = if_no (arrows_at lm inner lev (from r k)) _ _ _ _ (calm_at lev r a) (here (ap (λ (z : Span). ident z n) (named_span q p)))
     where
@@ -164,7 +164,7 @@ module _ (inner : Inner Input) (c : Code) (lev : ℕ) (ts : Input) (k : List ℕ
       (if_no _ _ _ _ _ (back (λ z. (((kind z == function_kind) && not (brk z)) && not (barred c.context z)) ≡ false) (o.function e))
       (if_no _ _ _ _ _ (back (λ z. param_at c lev z ≡ false) (o.param e))
       (if_no ((kind (rest ts) == left_paren_kind) && not (brk (rest ts))) _ _ _ _ (paren_off (back (λ z. kind z ≡ left_paren_kind → brk z ≡ true) (b e)))
-      (subst (λ (n : List ℕ). Reads (from ts k) (ident_end lm inner c lev (from ts k) (text ts) (from (rest ts) k)) (Is (ident s n) (rest ts)) Q) t (after_one (from ts k) _ _ Q (ident_ends s (text ts) (rest ts) refl refl (back (λ z. s ≡ span (lo ts) z.last) p) (back (λ z. lev ≤ assignment_level → arrowed z ≡ false) o.calm)))))))))
+      (subst (λ (n : List ℕ). Reads (from ts k) (ident_end lm inner c lev (first_span ts) (text ts) (from (rest ts) k)) (Is (ident s n) (rest ts)) Q) t (after_one (from ts k) _ _ Q (ident_ends s (text ts) (rest ts) refl refl (back (λ z. s ≡ span (lo ts) z.last) p) (back (λ z. lev ≤ assignment_level → arrowed z ≡ false) o.calm)))))))))
       (λ (x : kind ts ≡ async_kind → ⊥). if_no (eqb (kind ts) async_kind) _ _ _ _ (ne_eqb (kind ts) async_kind x) (then_name c ts r n k _ _ Q i t q (ident_ends s n r q t p o.calm)))
       (cases_eq (kind ts) async_kind))
     where

@@ -85,7 +85,7 @@ module _ (z : Nested) (p modules : Bool) (may : Tree → Bool) (Known : Tree →
       (cases_Bool (b && is_use_strict t))
 
   rest_read : (start : Input) (i : List ℕ) (s : Span) (l : Option (List ℕ)) (ss : Trees) (c : Code) (ts r : Input) (k : List ℕ) → Each Known ss → Items may AtEnd (coded p c) true (children ss) ts r → s ≡ span (lo start) r.last
-      → Reads (from ts k) (program_rest lm z.inner modules c (from start i) l (from ts k)) (Is (program_tree lm z.inner modules s ss l) r) (z.depth < most deep ss)
+      → Reads (from ts k) (program_rest lm z.inner modules c (lo start) l (from ts k)) (Is (program_tree lm z.inner modules s ss l) r) (z.depth < most deep ss)
   unfolding program_rest
   rest_read start i s l ss c ts r k g h e = then_reads _ _ (HasItems (unpack ss) r) (z.depth < most deep ss) _ _ (looped (program_step lm z.inner modules) (record { items = []; code = c; starts = true }) ts k (HasItems (unpack ss) r) _ (program_loop ss c true [] ts r k (most deep ss) g h (omega arith))) (λ u. u)
       (λ y v. ended (program_tree lm z.inner modules (span (lo start) y.1.source.last) (pack y.0.items) l, y.1) (Is (program_tree lm z.inner modules s ss l) r) _
@@ -98,7 +98,7 @@ module _ (z : Nested) (p modules : Bool) (may : Tree → Bool) (Known : Tree →
   program_found s None ss c ts r k g h = if_no (kind ts == shebang_kind) _ _ _ _ (subst (λ (y : Input). eqb (kind y) shebang_kind ≡ false) (sym h.1) (no_shebang ss (coded p c) true h.0 r h.2))
       (rest_read ts k s None ss c ts r k g (subst (λ (y : Input). Items may AtEnd (coded p c) true (children ss) y r) (sym h.1) h.2) h.3)
   program_found s (Some l) ss c ts r k g h = if_yes (kind ts == shebang_kind) _ _ _ _ (eq-eqb (kind ts) shebang_kind h.1.1.0)
-      (rw h.1.0 (onto ts h.0 k (λ y. program_rest lm z.inner modules c (from ts k) (Some l) y) _ _ h.1.1.2 (rest_read ts k s (Some l) ss c h.0 r k g h.2 h.3)))
+      (rw h.1.0 (onto ts h.0 k (λ y. program_rest lm z.inner modules c (lo ts) (Some l) y) _ _ h.1.1.2 (rest_read ts k s (Some l) ss c h.0 r k g h.2 h.3)))
 
 -- ---- scripts
 

@@ -132,6 +132,6 @@ module _ (z : Nested) (p : Bool) (c : Code) where
             (ended (do_while_stmt (span (lo ts) h.3.last) e b, from h.3 i) (Is (do_while_stmt s e b) r) _ (ap (λ (y : Input). do_while_stmt (span (lo ts) y.last) e b) x.1 ∙ ap (λ (y : Span). do_while_stmt y e b) (sym h.9), x.1))
 
     pub labelled_found : (s : Span) (l b : Tree) (m : Input) (j : List ℕ) → z.Covered b → (n : Input) → kind m ≡ colon_kind → rest m ≡ n → SubOrFunction (coded p c) (child b (λ y. Produces b y)) n r → s ≡ span (lo ts) r.last → leaves c.context b r ≡ true
-        → Reads (from m j) (labelled_by lm z.inner c (from ts k) l (from m j)) (Is (labeled_stmt s l b) r) (z.depth < z.reach b)
+        → Reads (from m j) (labelled_by lm z.inner c (lo ts) l (from m j)) (Is (labeled_stmt s l b) r) (z.depth < z.reach b)
     unfolding labelled_by
     labelled_found s l b m j g n e t h w q = then_past m n j (sub_by lm z.inner c true) _ b r (z.depth < z.reach b) _ _ t (either_found b n r j g h q) (λ u. u) (λ i. built (λ y. labeled_stmt y l b) s ts r i _ w)

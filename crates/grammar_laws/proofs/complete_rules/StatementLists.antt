@@ -67,7 +67,7 @@ module _ (z : Nested) (p : Bool) (c : Code) where
 
   -- after its brace
   pub rest_found : (start : Input) (i : List ℕ) (s : Span) (ss : Trees) (ts r : Input) (k : List ℕ) → Each z.Covered ss → Items is_item ClosesBlock (coded p c) false (children ss) ts r → s ≡ span (lo start) r.last
-      → Reads (from ts k) (block_rest lm z.inner c (from start i) (from ts k)) (Is (block_stmt s ss) r) (z.depth < most z.reach ss)
+      → Reads (from ts k) (block_rest lm z.inner c (lo start) (from ts k)) (Is (block_stmt s ss) r) (z.depth < most z.reach ss)
   unfolding block_rest
   rest_found start i s ss ts r k g h e = then_is _ _ (unpack ss) r (z.depth < most z.reach ss) _ _ (looped (block_step lm z.inner c) [] ts k (Is (unpack ss) r) _ (block_loop ss [] ts r k (most z.reach ss) g h (omega arith))) (λ u. u)
       (λ j. here (ap (λ (y : Span). block_stmt y (pack (unpack ss))) (sym e) ∙ ap (λ (y : Trees). block_stmt s y) (pack_unpack ss)))
@@ -97,7 +97,7 @@ module _ (z : Nested) (p : Bool) (c : Code) where
       (λ l. subst (λ ys. Loops (case_step lm z.inner c) (acc ++ t ∷ []) h.0 l (Is ys r) (z.depth < b)) (append_assoc acc (t ∷ []) (unpack ss)) (case_loop ss (acc ++ t ∷ []) h.0 r l b g.1 h.3 (omega arith)))
 
   case_rested : (start : Input) (i : List ℕ) (s : Span) (e : Tree) (ss : Trees) (m n r : Input) (k : List ℕ) → Each z.Covered ss → kind m ≡ colon_kind → rest m ≡ n → Items is_item ClosesCase (coded p c) false (children ss) n r → s ≡ span (lo start) r.last
-      → Reads (from m k) (case_rest lm z.inner c (from start i) e (from m k)) (Is (switch_case s e ss) r) (z.depth < most z.reach ss)
+      → Reads (from m k) (case_rest lm z.inner c (lo start) e (from m k)) (Is (switch_case s e ss) r) (z.depth < most z.reach ss)
   unfolding case_rest
   case_rested start i s e ss m n r k g o q h w = then_eat colon_kind m n k _ _ _ o q (then_is _ _ (unpack ss) r (z.depth < most z.reach ss) _ _ (looped (case_step lm z.inner c) [] n k (Is (unpack ss) r) _ (case_loop ss [] n r k (most z.reach ss) g h (omega arith))) (λ u. u)
       (λ j. here (ap (λ (y : Span). switch_case y e (pack (unpack ss))) (sym w) ∙ ap (λ (y : Trees). switch_case s e y) (pack_unpack ss))))
@@ -191,7 +191,7 @@ module _ (z : Nested) (p : Bool) (c : Code) where
 
   finally_found : (ts : Input) (k : List ℕ) (s : Span) (b x f : Tree) (o r : Input) (j : List ℕ) → Within z.Covered f → (is_absent x && is_absent f) ≡ false
       → By (is_absent f) (o ≡ r) ((q : Input) × TakesWord (coded p c) finally_kind o q × Sorted is_block (coded p c) (child f (λ y. Produces f y)) q r) → s ≡ span (lo ts) r.last → leaves c.context (try_stmt s b x f) r ≡ true
-      → Reads (from o j) (finally_by lm z.inner c (from ts k) b x (from o j)) (Is (try_stmt s b x f) r) (z.depth < within z.reach f)
+      → Reads (from o j) (finally_by lm z.inner c (lo ts) b x (from o j)) (Is (try_stmt s b x f) r) (z.depth < within z.reach f)
   unfolding finally_by
   finally_found ts k s b x f o r j g n h w q = by_cases (is_absent f) _ _ _ h
       (λ e y. if_no ((kind o == finally_kind) && not (barred c.context o)) _ _ _ _ (subst (λ (m : Input). ((kind m == finally_kind) && not (barred c.context m)) ≡ false) (sym y) (other (is_absent f) ((kind r == finally_kind) && not (barred c.context r)) e (not-true _ q))) (if_no (is_absent x) _ _ _ _ (one_there (is_absent x) (is_absent f) e n)
@@ -214,11 +214,11 @@ module _ (z : Nested) (p : Bool) (c : Code) where
   try_found s b x f ts r k g h q = then_word c try_kind ts h.0 k _ _ _ h.4.0 h.4.1 h.4.3 (then_is (block_by lm z.inner c (from h.0 k)) _ b h.1 (z.depth < within z.reach b) _ _ (block_found b h.0 h.1 k h.5.0 g.0 h.5.1) (λ u. omega arith)
       (λ j. by_cases (is_absent x) _ _ _ h.6
       (λ e y. if_no (kind h.1 == catch_kind) _ _ _ _ (no_catch e y)
-      (subst (λ (m : Input). Reads (from m j) (finally_by lm z.inner c (from ts k) b absent (from m j)) (Is (try_stmt s b x f) r) (z.depth < within z.reach (try_stmt s b x f))) (sym y)
-      (subst (λ (t : Tree). Reads (from h.2 j) (finally_by lm z.inner c (from ts k) b t (from h.2 j)) (Is (try_stmt s b x f) r) (z.depth < within z.reach (try_stmt s b x f))) (absent_is x e) (ends_by j))))
+      (subst (λ (m : Input). Reads (from m j) (finally_by lm z.inner c (lo ts) b absent (from m j)) (Is (try_stmt s b x f) r) (z.depth < within z.reach (try_stmt s b x f))) (sym y)
+      (subst (λ (t : Tree). Reads (from h.2 j) (finally_by lm z.inner c (lo ts) b t (from h.2 j)) (Is (try_stmt s b x f) r) (z.depth < within z.reach (try_stmt s b x f))) (absent_is x e) (ends_by j))))
       (λ e y. if_yes (kind h.1 == catch_kind) _ _ _ _ (eq-eqb (kind h.1) catch_kind (catch_word x h.1 h.2 y.0 y.1)) (then_is (catch_by lm z.inner c (from h.1 j)) _ x h.2 (z.depth < within z.reach x) _ _ (catch_found x h.1 h.2 j y.0 g.1 y.1) (λ u. omega arith) (λ i. ends_by i)))))
     where
-      ends_by : (j : List ℕ) → Reads (from h.2 j) (finally_by lm z.inner c (from ts k) b x (from h.2 j)) (Is (try_stmt s b x f) r) (z.depth < within z.reach (try_stmt s b x f))
+      ends_by : (j : List ℕ) → Reads (from h.2 j) (finally_by lm z.inner c (lo ts) b x (from h.2 j)) (Is (try_stmt s b x f) r) (z.depth < within z.reach (try_stmt s b x f))
       ends_by j = lifted (finally_found ts k s b x f h.2 r j g.2 h.3 h.7 h.8 q) (λ u. omega arith)
 
       no_catch : is_absent x ≡ true → h.1 ≡ h.2 → eqb (kind h.1) catch_kind ≡ false

@@ -97,7 +97,7 @@ module _ (inner : Inner Input) (c : Code) (ts : Input) (k : List ℕ) (V : Tree 
   unfolding keyword_stmt
   at_debugger e y = rw e y
 
-  at_function : kind ts ≡ function_kind → Reads (from ts k) (function_decl_by lm inner c (from ts k) false (from ts k)) V Q → Reads (from ts k) (keyword_stmt lm inner c (from ts k)) V Q
+  at_function : kind ts ≡ function_kind → Reads (from ts k) (function_decl_by lm inner c (lo ts) false (from ts k)) V Q → Reads (from ts k) (keyword_stmt lm inner c (from ts k)) V Q
   unfolding keyword_stmt
   at_function e y = rw e y
 
@@ -108,10 +108,10 @@ module _ (inner : Inner Input) (c : Code) (ts : Input) (k : List ℕ) (V : Tree 
   -- what starts with none of these words
   abbrev After_words : Type 0
   After_words = Reads (from ts k)
-      (if starts_async lm inner (from ts k) then (if c.listed then function_decl_by lm inner c (from ts k) true (from (rest ts) k) else unexpected lm (from ts k))
+      (if starts_async lm inner (from ts k) then (if c.listed then function_decl_by lm inner c (lo ts) true (from (rest ts) k) else unexpected lm (from ts k))
       else (if starts_variables lm inner c (from ts k) then variables_by lm inner c (from ts k)
-      else (if c.listed && starts_using lm inner c (from ts k) then using_by lm inner c (from ts k) false (from ts k)
-      else (if c.listed && starts_await_using lm inner c (from ts k) then using_by lm inner c (from ts k) true (from (rest ts) k)
+      else (if c.listed && starts_using lm inner c (from ts k) then using_by lm inner c (lo ts) false (from ts k)
+      else (if c.listed && starts_await_using lm inner c (from ts k) then using_by lm inner c (lo ts) true (from (rest ts) k)
       else expression_by lm inner c (from ts k)))))
       V Q
 
@@ -125,7 +125,7 @@ module _ (inner : Inner Input) (c : Code) (ts : Input) (k : List ℕ) (V : Tree 
       (if_no (kind ts == switch_kind) _ _ V Q h.0 (if_no (kind ts == try_kind) _ _ V Q i.0 (if_no (kind ts == throw_kind) _ _ V Q j.0 (if_no (kind ts == break_kind) _ _ V Q l.0 (if_no (kind ts == continue_kind) _ _ V Q m.0
       (if_no (kind ts == with_kind) _ _ V Q n.0 (if_no (kind ts == debugger_kind) _ _ V Q o.0 (if_no (kind ts == function_kind) _ _ V Q p.0 (if_no (kind ts == class_kind) _ _ V Q p.1 y)))))))))))))
 
-  at_async : kind ts ≡ async_kind → kind2 ts ≡ function_kind → brk2 ts ≡ false → c.listed ≡ true → Reads (from ts k) (function_decl_by lm inner c (from ts k) true (from (rest ts) k)) V Q → Reads (from ts k) (keyword_stmt lm inner c (from ts k)) V Q
+  at_async : kind ts ≡ async_kind → kind2 ts ≡ function_kind → brk2 ts ≡ false → c.listed ≡ true → Reads (from ts k) (function_decl_by lm inner c (lo ts) true (from (rest ts) k)) V Q → Reads (from ts k) (keyword_stmt lm inner c (from ts k)) V Q
   at_async e f b l y = after_words (subst (λ (n : ℕ). keyword n ≡ false) (sym e) refl) (if_yes (starts_async lm inner (from ts k)) _ _ V Q (and_from (kind ts == async_kind) _ (eq-eqb (kind ts) async_kind e) (and_from (kind2 ts == function_kind) _ (eq-eqb (kind2 ts) function_kind f) (ap not b))) (if_yes c.listed _ _ V Q l y))
 
   at_variables : is_var_word (kind ts) ≡ true → starts_variables lm inner c (from ts k) ≡ true → Reads (from ts k) (variables_by lm inner c (from ts k)) V Q → Reads (from ts k) (keyword_stmt lm inner c (from ts k)) V Q
@@ -137,7 +137,7 @@ module _ (inner : Inner Input) (c : Code) (ts : Input) (k : List ℕ) (V : Tree 
       by_var : (n : ℕ) → kind ts ≡ n → is_var_word n ≡ true → Reads (from ts k) (keyword_stmt lm inner c (from ts k)) V Q
       by_var n e v = ⊎_elim (λ q. here_at var_kind (e ∙ eqb-true n var_kind q) refl refl) (λ q. ⊎_elim (λ q. here_at let_kind (e ∙ eqb-true n let_kind q) refl refl) (λ q. here_at const_kind (e ∙ eqb-true n const_kind q) refl refl) (or_cases (n == let_kind) _ q)) (or_cases (n == var_kind) _ v)
 
-  at_using : kind ts ≡ using_kind → c.listed ≡ true → starts_using lm inner c (from ts k) ≡ true → Reads (from ts k) (using_by lm inner c (from ts k) false (from ts k)) V Q → Reads (from ts k) (keyword_stmt lm inner c (from ts k)) V Q
+  at_using : kind ts ≡ using_kind → c.listed ≡ true → starts_using lm inner c (from ts k) ≡ true → Reads (from ts k) (using_by lm inner c (lo ts) false (from ts k)) V Q → Reads (from ts k) (keyword_stmt lm inner c (from ts k)) V Q
   at_using e l s y = after_words (subst (λ (n : ℕ). keyword n ≡ false) (sym e) refl) (if_no (starts_async lm inner (from ts k)) _ _ V Q (and_left (kind ts == async_kind) _ (is_no async_kind refl))
       (if_no (starts_variables lm inner c (from ts k)) _ _ V Q (or_from (kind ts == var_kind) _ (is_no var_kind refl) (and_right c.listed _ (or_from (kind ts == const_kind) _ (is_no const_kind refl) (and_left (kind ts == let_kind) _ (is_no let_kind refl)))))
       (if_yes (c.listed && starts_using lm inner c (from ts k)) _ _ V Q (and_from c.listed _ l s) y)))
@@ -145,7 +145,7 @@ module _ (inner : Inner Input) (c : Code) (ts : Input) (k : List ℕ) (V : Tree 
       is_no : (n : ℕ) → eqb using_kind n ≡ false → eqb (kind ts) n ≡ false
       is_no n h = subst (λ (x : ℕ). eqb x n ≡ false) (sym e) h
 
-  at_await_using : kind ts ≡ await_kind → c.listed ≡ true → starts_await_using lm inner c (from ts k) ≡ true → Reads (from ts k) (using_by lm inner c (from ts k) true (from (rest ts) k)) V Q → Reads (from ts k) (keyword_stmt lm inner c (from ts k)) V Q
+  at_await_using : kind ts ≡ await_kind → c.listed ≡ true → starts_await_using lm inner c (from ts k) ≡ true → Reads (from ts k) (using_by lm inner c (lo ts) true (from (rest ts) k)) V Q → Reads (from ts k) (keyword_stmt lm inner c (from ts k)) V Q
   at_await_using e l s y = after_words (subst (λ (n : ℕ). keyword n ≡ false) (sym e) refl) (if_no (starts_async lm inner (from ts k)) _ _ V Q (and_left (kind ts == async_kind) _ (is_no async_kind refl))
       (if_no (starts_variables lm inner c (from ts k)) _ _ V Q (or_from (kind ts == var_kind) _ (is_no var_kind refl) (and_right c.listed _ (or_from (kind ts == const_kind) _ (is_no const_kind refl) (and_left (kind ts == let_kind) _ (is_no let_kind refl)))))
       (if_no (c.listed && starts_using lm inner c (from ts k)) _ _ V Q (and_right c.listed _ (and_right c.syntax.explicit_resource_management _ (and_left (kind ts == using_kind) _ (is_no using_kind refl))))
@@ -289,14 +289,14 @@ module _ (z : Nested) (p : Bool) (c : Code) (ts : Input) (k : List ℕ) (r : Inp
   using_read s false ds g l h = at_using z.inner c ts k _ _ h.1.2.0 l (using_on z.inner c ts h.1.0 k h.1.1 h.1.2.0 h.1.2.3 h.1.3 h.1.4 (declarators_start ds (coded p c) h.1.0 h.0 h.1.5))
       (using_found z p c ts k s false ds ts h.1.0 h.0 r k g h.1.2.0 h.1.2.1 h.1.2.3 h.1.5 h.2 h.3)
   using_read s true ds g l h = at_await_using z.inner c ts k _ _ h.1.4.0 l (await_on z.inner c ts h.1.0 k h.1.3 h.1.4.0 h.1.4.1 h.1.4.3 h.1.5 (using_on z.inner c h.1.0 h.1.1 k h.1.2 h.1.6.0 h.1.6.3 h.1.7 h.1.8 (declarators_start ds (coded p c) h.1.1 h.0 h.1.9)))
-      (onto ts h.1.0 k (λ x. using_by lm z.inner c (from ts k) true x) _ _ h.1.4.3 (using_found z p c ts k s true ds h.1.0 h.1.1 h.0 r k g h.1.6.0 h.1.6.1 h.1.6.3 h.1.9 h.2 h.3))
+      (onto ts h.1.0 k (λ x. using_by lm z.inner c (lo ts) true x) _ _ h.1.4.3 (using_found z p c ts k s true ds h.1.0 h.1.1 h.0 r k g h.1.6.0 h.1.6.1 h.1.6.3 h.1.9 h.2 h.3))
 
   function_read : (s : Span) (x : Tree) (t : Span) (ps ds : Trees) (b : Tree) (g a : Bool) → Within z.Covered (function t ps ds b g a) → (a ≡ true → c.listed ≡ true) → Produces (fn_decl s x (function t ps ds b g a)) (coded p c) ts r
       → Reads (from ts k) (keyword_stmt lm z.inner c (from ts k)) (Is (fn_decl s x (function t ps ds b g a)) r) (z.depth < within z.reach (function t ps ds b g a))
   function_read s x t ps ds b g false w l h = let y = function_declared z p c s x t ps ds b g false ts r k w h in
-      at_function z.inner c ts k _ _ (ap (λ (d : Input). kind d) y.1 ∙ y.2) (subst (λ (d : Input). Reads (from d k) (function_decl_by lm z.inner c (from ts k) false (from d k)) (Is (fn_decl s x (function t ps ds b g false)) r) (z.depth < within z.reach (function t ps ds b g false))) (sym y.1) (y.3 k))
+      at_function z.inner c ts k _ _ (ap (λ (d : Input). kind d) y.1 ∙ y.2) (subst (λ (d : Input). Reads (from d k) (function_decl_by lm z.inner c (lo ts) false (from d k)) (Is (fn_decl s x (function t ps ds b g false)) r) (z.depth < within z.reach (function t ps ds b g false))) (sym y.1) (y.3 k))
   function_read s x t ps ds b g true w l h = let y = function_declared z p c s x t ps ds b g true ts r k w h in
-      at_async z.inner c ts k _ _ y.1.0.0 (ap (λ (d : Input). kind d) y.1.0.3 ∙ y.2) (ap (λ (d : Input). brk d) y.1.0.3 ∙ y.1.1) (l refl) (onto ts y.0 k (λ d. function_decl_by lm z.inner c (from ts k) true d) _ _ y.1.0.3 (y.3 k))
+      at_async z.inner c ts k _ _ y.1.0.0 (ap (λ (d : Input). kind d) y.1.0.3 ∙ y.2) (ap (λ (d : Input). brk d) y.1.0.3 ∙ y.1.1) (l refl) (onto ts y.0 k (λ d. function_decl_by lm z.inner c (lo ts) true d) _ _ y.1.0.3 (y.3 k))
 
   -- ---- any statement
 

@@ -136,7 +136,7 @@ module _ (z : Nested) (p : Bool) (c : Code) where
 
   -- `using`, from that word
   pub using_found : (start : Input) (i : List ℕ) (s : Span) (w : Bool) (ds : Trees) (m n o r : Input) (k : List ℕ) → Withins z.Covered ds → kind m ≡ using_kind → barred c.context m ≡ false → rest m ≡ n → Commas (Sorted is_declarator (coded p c)) (coded p c) (children ds) n o
-      → Ends (coded p c) (declarators_end ds) o r → s ≡ span (lo start) r.last → Reads (from m k) (using_by lm z.inner c (from start i) w (from m k)) (Is (using_decl s w ds) r) (z.depth < withins z.reach ds)
+      → Ends (coded p c) (declarators_end ds) o r → s ≡ span (lo start) r.last → Reads (from m k) (using_by lm z.inner c (lo start) w (from m k)) (Is (using_decl s w ds) r) (z.depth < withins z.reach ds)
   unfolding using_by
   using_found start i s w ds m n o r k g e b q h x v = then_word c using_kind m n k _ _ _ e b q
       (then_is (declarators_by lm z.inner c (from n k)) _ (unpack ds) o (z.depth < withins z.reach ds) _ _ (declarators_found ds n o k g h (settled_end p c ds o r x)) (λ u. u)

@@ -28,7 +28,7 @@ Imported inner c xs r x = (fits_import lm inner c x.0 ≡ true) × (x.0.items �
 module _ (inner : Inner Input) (c : Code) (lev : ℕ) (ts : Input) (k : List ℕ) (m : Input) (Q : Type 0) where
   -- ---- `super`
 
-  super_found : (V : Tree × State Input → Type 0) → kind ts ≡ super_kind → barred c.context ts ≡ false → rest ts ≡ m → Reads (from m k) (super_end lm inner c (from ts k) (from m k)) V Q → Reads (from ts k) (prefix_by lm inner c lev (from ts k)) V Q
+  super_found : (V : Tree × State Input → Type 0) → kind ts ≡ super_kind → barred c.context ts ≡ false → rest ts ≡ m → Reads (from m k) (super_end lm inner c (first_span ts) (from m k)) V Q → Reads (from ts k) (prefix_by lm inner c lev (from ts k)) V Q
   unfolding prefix_by keyword_by
   super_found V e b q y = rw e (then_word c super_kind ts m k _ V Q e b q y)
 
@@ -69,7 +69,7 @@ module _ (inner : Inner Input) (c : Code) (lev : ℕ) (ts : Input) (k : List ℕ
 
   -- ---- `yield`
 
-  yields : (V : Tree × State Input → Type 0) → kind ts ≡ yield_kind → barred c.context ts ≡ false → rest ts ≡ m → c.context.in_generator ≡ true → Reads (from m k) (yield_end lm inner c (from ts k) (from m k)) V Q → Reads (from ts k) (prefix_by lm inner c lev (from ts k)) V Q
+  yields : (V : Tree × State Input → Type 0) → kind ts ≡ yield_kind → barred c.context ts ≡ false → rest ts ≡ m → c.context.in_generator ≡ true → Reads (from m k) (yield_end lm inner c (lo ts) (from m k)) V Q → Reads (from ts k) (prefix_by lm inner c lev (from ts k)) V Q
   unfolding prefix_by keyword_by yield_by
   yields V e b q g y = rw e (if_yes c.context.in_generator _ _ V Q g (then_word c yield_kind ts m k _ V Q e b q y))
 

@@ -2,7 +2,7 @@
 use Rattle.std.proofs.Common.{◌≡◌, ℕ, zero, suc, Bool, true, false, ◌&&◌, cond, ltb, List, [], ◌∷◌, ◌++◌, Option, Some, None, Result, Ok, Err, if◌then◌else◌, refl}
 use Rattle.base_token.specs.Kinds.{shebang_kind}
 use Rattle.tree_spec.specs.Tree.{Tree}
-use Rattle.grammar_spec.specs.Tokens.Input.{Input, Code, content, in_list, turned_strict}
+use Rattle.grammar_spec.specs.Tokens.Input.{Input, Code, content, in_list, turned_strict, lo}
 use Rattle.grammar_spec.specs.Tokens.Shape.{is_use_strict, is_directive}
 use Rattle.grammar_spec.specs.Reader.Source.{Fault, ◌>>=◌, unexpected, is_nil, State, Read, input, operand, past, retold, bound, at, ended, Step, go_on, finished, next_by, iterate_n, iterate, Inner}
 use Rattle.grammar_spec.specs.Reader.Statements.{Body}
@@ -69,7 +69,7 @@ module _ (inner : Inner Input) (modules : Bool) where
   keeps_end f (Ok y) e = record { so = e.so }
   keeps_end f (Err d) e = record { so = tt }
 
-  rest_ends : (c : Code) (start : State Input) (l : Option (List ℕ)) (s : State Input) → Ends (program_rest lm inner modules c start l s)
+  rest_ends : (c : Code) (start : ℕ) (l : Option (List ℕ)) (s : State Input) → Ends (program_rest lm inner modules c start l s)
   unfolding program_rest
   rest_ends c start l s = keeps_end _ _ (iterate_ends (program_step lm inner modules) step_ends (record { items = []; code = c; starts = true }) s)
 
@@ -77,10 +77,10 @@ module _ (inner : Inner Input) (modules : Bool) where
   unfolding program_by
   program_ends c s = by_test (at lm shebang_kind s)
     where
-      by_line : (o : Option (List ℕ)) → Ends {A = Tree} (elim o [ None ↦ unexpected lm s | Some l ↦ program_rest lm inner modules c s (Some l) (past lm s) ])
+      by_line : (o : Option (List ℕ)) → Ends {A = Tree} (elim o [ None ↦ unexpected lm s | Some l ↦ program_rest lm inner modules c (lo (input lm s)) (Some l) (past lm s) ])
       by_line None = record { so = tt }
-      by_line (Some l) = rest_ends c s (Some l) (past lm s)
+      by_line (Some l) = rest_ends c (lo (input lm s)) (Some l) (past lm s)
 
-      by_test : (z : Bool) → Ends {A = Tree} (cond z (elim (line_of lm inner (content (input lm s))) [ None ↦ unexpected lm s | Some l ↦ program_rest lm inner modules c s (Some l) (past lm s) ]) (program_rest lm inner modules c s None s))
+      by_test : (z : Bool) → Ends {A = Tree} (cond z (elim (line_of lm inner (content (input lm s))) [ None ↦ unexpected lm s | Some l ↦ program_rest lm inner modules c (lo (input lm s)) (Some l) (past lm s) ]) (program_rest lm inner modules c (lo (input lm s)) None s))
       by_test true = by_line (line_of lm inner (content (input lm s)))
-      by_test false = rest_ends c s None s
+      by_test false = rest_ends c (lo (input lm s)) None s

@@ -3,7 +3,7 @@ use Rattle.std.proofs.Common.{◌≡◌, ◌≤◌, ℕ, Bool, true, false, not,
 use Rattle.base_token.specs.declared.place.Span.{Span}
 use Rattle.base_token.specs.Kinds.{div_kind, regex_kind, hash_kind, dot_kind, dot_dot_dot_kind, left_paren_kind, right_paren_kind, left_bracket_kind, right_bracket_kind, left_brace_kind, right_brace_kind, comma_kind, back_quote_kind, template_kind, colon_kind, dollar_brace_kind, question_mark_kind, regex_kind, mul_kind, assign_kind, null_kind, true_kind, false_kind, await_kind, function_kind, class_kind, new_kind, this_kind, super_kind, import_kind, yield_kind, in_kind, plus_plus_kind, minus_minus_kind, async_kind, meta_kind, target_kind, get_kind, set_kind}
 use Rattle.tree_spec.specs.Tree.{Tree, none, pack, ident_name, this_expr, update_expr, bin_expr, assign_expr, member_expr, super_prop_expr, cond_expr, call_expr, new_expr, ident, tagged_tpl, arrow_expr, class_expr, yield_expr, meta_prop_expr, paren_expr, opt_chain_expr, opt_call, super, import, assign_prop, bool_lit, null_lit, binding_ident, assign_pat, param, absent, list}
-use Rattle.grammar_spec.specs.Tokens.Input.{PlacedToken, Input, Code, kind, kind2, brk, barred, lo, text, span, is_word, has_in, with_in, by, in_body, in_arrow, turned_strict, in_list}
+use Rattle.grammar_spec.specs.Tokens.Input.{PlacedToken, Input, Code, kind, kind2, brk, barred, lo, text, span, is_word, has_in, with_in, by, in_body, in_arrow, turned_strict, in_list, lo_of, first_span}
 use Rattle.grammar_spec.specs.Tokens.Operators.{closed_end, expression_level, assignment_level, coalesce_level, unary_level, new_level, call_level, member_level, binary_level, right_level, is_assign_op, operates, goes_expr, between, other_end}
 use Rattle.grammar_spec.specs.Tokens.Shape.{level, ends, fits_left, is_chain, is_cooked}
 use Rattle.grammar_spec.specs.Reader.Source.{Fault, placed, unexpected, ◌>>=◌, State, bound, input, past, spanned, at, eat, eat_word, is_name, name, any_word, Step, go_on, finished, Inner}
@@ -68,8 +68,8 @@ module _ (w : Parting) (inner : Inner Input) (told : Told w inner) where
 
   pub parameter_by_twin : (c : Code) (o : List ℕ) (n : ℕ) (l : List PlacedToken) → Twins w (parameter_by lm inner c (on o n ((l ++ regexps w)))) (parameter_by lm inner c (on o n ((l ++ slashes w))))
   unfolding parameter_by
-  parameter_by_twin c o n [] = twin_no w (at lm dot_dot_dot_kind (on o n (slashes w))) (parted w (λ z. at lm dot_dot_dot_kind (on o n z)) refl refl) _ _ _ (twin_then w _ _ _ _ (told.pat (with_in c) o n []) (λ pv po pn pl. cut w (λ z. Twins w (if at lm assign_kind (on po pn ((z ++ regexps w))) then (inner.expr (with_in c) assignment_level (past lm (on po pn ((z ++ regexps w)))) >>= λ e. Ok (param (spanned lm (on o n (regexps w)) e.1) none (assign_pat (spanned lm (on o n (regexps w)) e.1) pv e.0), e.1)) else Ok (param (spanned lm (on o n (regexps w)) (on po pn ((z ++ regexps w)))) none pv, (on po pn ((z ++ regexps w))))) (if at lm assign_kind (on po pn ((z ++ slashes w))) then (inner.expr (with_in c) assignment_level (past lm (on po pn ((z ++ slashes w)))) >>= λ e. Ok (param (spanned lm (on o n (slashes w)) e.1) none (assign_pat (spanned lm (on o n (slashes w)) e.1) pv e.0), e.1)) else Ok (param (spanned lm (on o n (slashes w)) (on po pn ((z ++ slashes w)))) none pv, (on po pn ((z ++ slashes w)))))) pl (twin_no w (at lm assign_kind (on po pn (slashes w))) (parted w (λ z. at lm assign_kind (on po pn z)) refl refl) _ _ _ (twin_ok w _ _ po pn [] refl)) (λ pp pq. twin_if w (at lm assign_kind (on po pn (pp ∷ (pq ++ regexps w)))) (at lm assign_kind (on po pn (pp ∷ (pq ++ slashes w)))) refl _ _ _ _ (λ yes. twin_then w _ _ _ _ (told.expr (with_in c) assignment_level po pp.spot.hi pq) (λ ev eo en el. twin_ok w _ _ eo en el refl)) (λ no. twin_ok w _ _ po pn (pp ∷ pq) refl))))
-  parameter_by_twin c o n (p1 ∷ l) = twin_if w (at lm dot_dot_dot_kind (on o n (p1 ∷ (l ++ regexps w)))) (at lm dot_dot_dot_kind (on o n (p1 ∷ (l ++ slashes w)))) refl _ _ _ _ (λ yes. twin_then w _ _ _ _ (told.pat (with_in c) o p1.spot.hi l) (λ pv po pn pl. twin_ok w _ _ po pn pl refl)) (λ no. twin_then w _ _ _ _ (told.pat (with_in c) o n (p1 ∷ l)) (λ pv po pn pl. cut w (λ z. Twins w (if at lm assign_kind (on po pn ((z ++ regexps w))) then (inner.expr (with_in c) assignment_level (past lm (on po pn ((z ++ regexps w)))) >>= λ e. Ok (param (spanned lm (on o n (p1 ∷ (l ++ regexps w))) e.1) none (assign_pat (spanned lm (on o n (p1 ∷ (l ++ regexps w))) e.1) pv e.0), e.1)) else Ok (param (spanned lm (on o n (p1 ∷ (l ++ regexps w))) (on po pn ((z ++ regexps w)))) none pv, (on po pn ((z ++ regexps w))))) (if at lm assign_kind (on po pn ((z ++ slashes w))) then (inner.expr (with_in c) assignment_level (past lm (on po pn ((z ++ slashes w)))) >>= λ e. Ok (param (spanned lm (on o n (p1 ∷ (l ++ slashes w))) e.1) none (assign_pat (spanned lm (on o n (p1 ∷ (l ++ slashes w))) e.1) pv e.0), e.1)) else Ok (param (spanned lm (on o n (p1 ∷ (l ++ slashes w))) (on po pn ((z ++ slashes w)))) none pv, (on po pn ((z ++ slashes w)))))) pl (twin_no w (at lm assign_kind (on po pn (slashes w))) (parted w (λ z. at lm assign_kind (on po pn z)) refl refl) _ _ _ (twin_ok w _ _ po pn [] refl)) (λ pp pq. twin_if w (at lm assign_kind (on po pn (pp ∷ (pq ++ regexps w)))) (at lm assign_kind (on po pn (pp ∷ (pq ++ slashes w)))) refl _ _ _ _ (λ yes. twin_then w _ _ _ _ (told.expr (with_in c) assignment_level po pp.spot.hi pq) (λ ev eo en el. twin_ok w _ _ eo en el refl)) (λ no. twin_ok w _ _ po pn (pp ∷ pq) refl))))
+  parameter_by_twin c o n [] = twin_no w (at lm dot_dot_dot_kind (on o n (slashes w))) (parted w (λ z. at lm dot_dot_dot_kind (on o n z)) refl refl) _ _ _ (twin_then w _ _ _ _ (told.pat (with_in c) o n []) (λ pv po pn pl. cut w (λ z. Twins w (if at lm assign_kind (on po pn ((z ++ regexps w))) then (inner.expr (with_in c) assignment_level (past lm (on po pn ((z ++ regexps w)))) >>= λ e. Ok (param (spanned lm (lo_of n (regexps w)) e.1) none (assign_pat (spanned lm (lo_of n (regexps w)) e.1) pv e.0), e.1)) else Ok (param (spanned lm (lo_of n (regexps w)) (on po pn ((z ++ regexps w)))) none pv, (on po pn ((z ++ regexps w))))) (if at lm assign_kind (on po pn ((z ++ slashes w))) then (inner.expr (with_in c) assignment_level (past lm (on po pn ((z ++ slashes w)))) >>= λ e. Ok (param (spanned lm (lo_of n (slashes w)) e.1) none (assign_pat (spanned lm (lo_of n (slashes w)) e.1) pv e.0), e.1)) else Ok (param (spanned lm (lo_of n (slashes w)) (on po pn ((z ++ slashes w)))) none pv, (on po pn ((z ++ slashes w)))))) pl (twin_no w (at lm assign_kind (on po pn (slashes w))) (parted w (λ z. at lm assign_kind (on po pn z)) refl refl) _ _ _ (twin_ok w _ _ po pn [] refl)) (λ pp pq. twin_if w (at lm assign_kind (on po pn (pp ∷ (pq ++ regexps w)))) (at lm assign_kind (on po pn (pp ∷ (pq ++ slashes w)))) refl _ _ _ _ (λ yes. twin_then w _ _ _ _ (told.expr (with_in c) assignment_level po pp.spot.hi pq) (λ ev eo en el. twin_ok w _ _ eo en el refl)) (λ no. twin_ok w _ _ po pn (pp ∷ pq) refl))))
+  parameter_by_twin c o n (p1 ∷ l) = twin_if w (at lm dot_dot_dot_kind (on o n (p1 ∷ (l ++ regexps w)))) (at lm dot_dot_dot_kind (on o n (p1 ∷ (l ++ slashes w)))) refl _ _ _ _ (λ yes. twin_then w _ _ _ _ (told.pat (with_in c) o p1.spot.hi l) (λ pv po pn pl. twin_ok w _ _ po pn pl refl)) (λ no. twin_then w _ _ _ _ (told.pat (with_in c) o n (p1 ∷ l)) (λ pv po pn pl. cut w (λ z. Twins w (if at lm assign_kind (on po pn ((z ++ regexps w))) then (inner.expr (with_in c) assignment_level (past lm (on po pn ((z ++ regexps w)))) >>= λ e. Ok (param (spanned lm (lo_of n (p1 ∷ (l ++ regexps w))) e.1) none (assign_pat (spanned lm (lo_of n (p1 ∷ (l ++ regexps w))) e.1) pv e.0), e.1)) else Ok (param (spanned lm (lo_of n (p1 ∷ (l ++ regexps w))) (on po pn ((z ++ regexps w)))) none pv, (on po pn ((z ++ regexps w))))) (if at lm assign_kind (on po pn ((z ++ slashes w))) then (inner.expr (with_in c) assignment_level (past lm (on po pn ((z ++ slashes w)))) >>= λ e. Ok (param (spanned lm (lo_of n (p1 ∷ (l ++ slashes w))) e.1) none (assign_pat (spanned lm (lo_of n (p1 ∷ (l ++ slashes w))) e.1) pv e.0), e.1)) else Ok (param (spanned lm (lo_of n (p1 ∷ (l ++ slashes w))) (on po pn ((z ++ slashes w)))) none pv, (on po pn ((z ++ slashes w)))))) pl (twin_no w (at lm assign_kind (on po pn (slashes w))) (parted w (λ z. at lm assign_kind (on po pn z)) refl refl) _ _ _ (twin_ok w _ _ po pn [] refl)) (λ pp pq. twin_if w (at lm assign_kind (on po pn (pp ∷ (pq ++ regexps w)))) (at lm assign_kind (on po pn (pp ∷ (pq ++ slashes w)))) refl _ _ _ _ (λ yes. twin_then w _ _ _ _ (told.expr (with_in c) assignment_level po pp.spot.hi pq) (λ ev eo en el. twin_ok w _ _ eo en el refl)) (λ no. twin_ok w _ _ po pn (pp ∷ pq) refl))))
 
   pub parameter_step_twin : (c : Code) (ps : List Tree) (o : List ℕ) (n : ℕ) (l : List PlacedToken) → Twins w (parameter_step lm inner c ps (on o n ((l ++ regexps w)))) (parameter_step lm inner c ps (on o n ((l ++ slashes w))))
   unfolding parameter_step
@@ -107,8 +107,8 @@ module _ (w : Parting) (inner : Inner Input) (told : Told w inner) where
 
   pub prop_rest_twin : (c : Code) (so : List ℕ) (sn : ℕ) (sp : PlacedToken) (sl : List PlacedToken) (k : Tree) (o : List ℕ) (n1 : ℕ) (l : List PlacedToken) → Twins w (prop_rest lm inner c (on so sn (sp ∷ (sl ++ regexps w))) k (on o n1 ((l ++ regexps w)))) (prop_rest lm inner c (on so sn (sp ∷ (sl ++ slashes w))) k (on o n1 ((l ++ slashes w))))
   unfolding prop_rest
-  prop_rest_twin c so sn sp sl k o n1 [] = twin_no w (at lm colon_kind (on o n1 (slashes w))) (parted w (λ z. at lm colon_kind (on o n1 z)) refl refl) _ _ _ (twin_no w (at lm left_paren_kind (on o n1 (slashes w))) (parted w (λ z. at lm left_paren_kind (on o n1 z)) refl refl) _ _ _ (placed_on w _ _ c so sn sp sl _ _ (λ nv. cut w (λ z. Twins w (if at lm assign_kind (on so sp.spot.hi ((z ++ regexps w))) then (inner.expr (with_in c) assignment_level (past lm (on so sp.spot.hi ((z ++ regexps w)))) >>= λ e. Ok (assign_prop (spanned lm (on so sn (sp ∷ (sl ++ regexps w))) e.1) (ident (first lm inner (on so sn (sp ∷ (sl ++ regexps w)))) nv) e.0, e.1)) else Ok (ident (first lm inner (on so sn (sp ∷ (sl ++ regexps w)))) nv, (on so sp.spot.hi ((z ++ regexps w))))) (if at lm assign_kind (on so sp.spot.hi ((z ++ slashes w))) then (inner.expr (with_in c) assignment_level (past lm (on so sp.spot.hi ((z ++ slashes w)))) >>= λ e. Ok (assign_prop (spanned lm (on so sn (sp ∷ (sl ++ slashes w))) e.1) (ident (first lm inner (on so sn (sp ∷ (sl ++ slashes w)))) nv) e.0, e.1)) else Ok (ident (first lm inner (on so sn (sp ∷ (sl ++ slashes w)))) nv, (on so sp.spot.hi ((z ++ slashes w)))))) sl (twin_no w (at lm assign_kind (on so sp.spot.hi (slashes w))) (parted w (λ z. at lm assign_kind (on so sp.spot.hi z)) refl refl) _ _ _ (twin_ok w _ _ so sp.spot.hi [] refl)) (λ np nq. twin_if w (at lm assign_kind (on so sp.spot.hi (np ∷ (nq ++ regexps w)))) (at lm assign_kind (on so sp.spot.hi (np ∷ (nq ++ slashes w)))) refl _ _ _ _ (λ yes. twin_then w _ _ _ _ (told.expr (with_in c) assignment_level so np.spot.hi nq) (λ ev eo en el. twin_ok w _ _ eo en el refl)) (λ no. twin_ok w _ _ so sp.spot.hi (np ∷ nq) refl)))))
-  prop_rest_twin c so sn sp sl k o n1 (p ∷ l) = twin_if w (at lm colon_kind (on o n1 (p ∷ (l ++ regexps w)))) (at lm colon_kind (on o n1 (p ∷ (l ++ slashes w)))) refl _ _ _ _ (λ yes. twin_then w _ _ _ _ (told.expr (with_in c) assignment_level o p.spot.hi l) (λ vv vo vn vl. twin_ok w _ _ vo vn vl refl)) (λ no. twin_if w (at lm left_paren_kind (on o n1 (p ∷ (l ++ regexps w)))) (at lm left_paren_kind (on o n1 (p ∷ (l ++ slashes w)))) refl _ _ _ _ (λ yes. twin_then w _ _ _ _ (function_by_twin c (lo (input lm (on so sn (sp ∷ (sl ++ regexps w))))) false false o n1 (p ∷ l)) (λ fv fo fn fl. twin_ok w _ _ fo fn fl refl)) (λ no. placed_on w _ _ c so sn sp sl _ _ (λ nv. cut w (λ z. Twins w (if at lm assign_kind (on so sp.spot.hi ((z ++ regexps w))) then (inner.expr (with_in c) assignment_level (past lm (on so sp.spot.hi ((z ++ regexps w)))) >>= λ e. Ok (assign_prop (spanned lm (on so sn (sp ∷ (sl ++ regexps w))) e.1) (ident (first lm inner (on so sn (sp ∷ (sl ++ regexps w)))) nv) e.0, e.1)) else Ok (ident (first lm inner (on so sn (sp ∷ (sl ++ regexps w)))) nv, (on so sp.spot.hi ((z ++ regexps w))))) (if at lm assign_kind (on so sp.spot.hi ((z ++ slashes w))) then (inner.expr (with_in c) assignment_level (past lm (on so sp.spot.hi ((z ++ slashes w)))) >>= λ e. Ok (assign_prop (spanned lm (on so sn (sp ∷ (sl ++ slashes w))) e.1) (ident (first lm inner (on so sn (sp ∷ (sl ++ slashes w)))) nv) e.0, e.1)) else Ok (ident (first lm inner (on so sn (sp ∷ (sl ++ slashes w)))) nv, (on so sp.spot.hi ((z ++ slashes w)))))) sl (twin_no w (at lm assign_kind (on so sp.spot.hi (slashes w))) (parted w (λ z. at lm assign_kind (on so sp.spot.hi z)) refl refl) _ _ _ (twin_ok w _ _ so sp.spot.hi [] refl)) (λ np nq. twin_if w (at lm assign_kind (on so sp.spot.hi (np ∷ (nq ++ regexps w)))) (at lm assign_kind (on so sp.spot.hi (np ∷ (nq ++ slashes w)))) refl _ _ _ _ (λ yes. twin_then w _ _ _ _ (told.expr (with_in c) assignment_level so np.spot.hi nq) (λ ev eo en el. twin_ok w _ _ eo en el refl)) (λ no. twin_ok w _ _ so sp.spot.hi (np ∷ nq) refl)))))
+  prop_rest_twin c so sn sp sl k o n1 [] = twin_no w (at lm colon_kind (on o n1 (slashes w))) (parted w (λ z. at lm colon_kind (on o n1 z)) refl refl) _ _ _ (twin_no w (at lm left_paren_kind (on o n1 (slashes w))) (parted w (λ z. at lm left_paren_kind (on o n1 z)) refl refl) _ _ _ (placed_on w _ _ c so sn sp sl _ _ (λ nv. cut w (λ z. Twins w (if at lm assign_kind (on so sp.spot.hi ((z ++ regexps w))) then (inner.expr (with_in c) assignment_level (past lm (on so sp.spot.hi ((z ++ regexps w)))) >>= λ e. Ok (assign_prop (spanned lm (lo_of sn (sp ∷ (sl ++ regexps w))) e.1) (ident (first lm inner (on so sn (sp ∷ (sl ++ regexps w)))) nv) e.0, e.1)) else Ok (ident (first lm inner (on so sn (sp ∷ (sl ++ regexps w)))) nv, (on so sp.spot.hi ((z ++ regexps w))))) (if at lm assign_kind (on so sp.spot.hi ((z ++ slashes w))) then (inner.expr (with_in c) assignment_level (past lm (on so sp.spot.hi ((z ++ slashes w)))) >>= λ e. Ok (assign_prop (spanned lm (lo_of sn (sp ∷ (sl ++ slashes w))) e.1) (ident (first lm inner (on so sn (sp ∷ (sl ++ slashes w)))) nv) e.0, e.1)) else Ok (ident (first lm inner (on so sn (sp ∷ (sl ++ slashes w)))) nv, (on so sp.spot.hi ((z ++ slashes w)))))) sl (twin_no w (at lm assign_kind (on so sp.spot.hi (slashes w))) (parted w (λ z. at lm assign_kind (on so sp.spot.hi z)) refl refl) _ _ _ (twin_ok w _ _ so sp.spot.hi [] refl)) (λ np nq. twin_if w (at lm assign_kind (on so sp.spot.hi (np ∷ (nq ++ regexps w)))) (at lm assign_kind (on so sp.spot.hi (np ∷ (nq ++ slashes w)))) refl _ _ _ _ (λ yes. twin_then w _ _ _ _ (told.expr (with_in c) assignment_level so np.spot.hi nq) (λ ev eo en el. twin_ok w _ _ eo en el refl)) (λ no. twin_ok w _ _ so sp.spot.hi (np ∷ nq) refl)))))
+  prop_rest_twin c so sn sp sl k o n1 (p ∷ l) = twin_if w (at lm colon_kind (on o n1 (p ∷ (l ++ regexps w)))) (at lm colon_kind (on o n1 (p ∷ (l ++ slashes w)))) refl _ _ _ _ (λ yes. twin_then w _ _ _ _ (told.expr (with_in c) assignment_level o p.spot.hi l) (λ vv vo vn vl. twin_ok w _ _ vo vn vl refl)) (λ no. twin_if w (at lm left_paren_kind (on o n1 (p ∷ (l ++ regexps w)))) (at lm left_paren_kind (on o n1 (p ∷ (l ++ slashes w)))) refl _ _ _ _ (λ yes. twin_then w _ _ _ _ (function_by_twin c (lo (input lm (on so sn (sp ∷ (sl ++ regexps w))))) false false o n1 (p ∷ l)) (λ fv fo fn fl. twin_ok w _ _ fo fn fl refl)) (λ no. placed_on w _ _ c so sn sp sl _ _ (λ nv. cut w (λ z. Twins w (if at lm assign_kind (on so sp.spot.hi ((z ++ regexps w))) then (inner.expr (with_in c) assignment_level (past lm (on so sp.spot.hi ((z ++ regexps w)))) >>= λ e. Ok (assign_prop (spanned lm (lo_of sn (sp ∷ (sl ++ regexps w))) e.1) (ident (first lm inner (on so sn (sp ∷ (sl ++ regexps w)))) nv) e.0, e.1)) else Ok (ident (first lm inner (on so sn (sp ∷ (sl ++ regexps w)))) nv, (on so sp.spot.hi ((z ++ regexps w))))) (if at lm assign_kind (on so sp.spot.hi ((z ++ slashes w))) then (inner.expr (with_in c) assignment_level (past lm (on so sp.spot.hi ((z ++ slashes w)))) >>= λ e. Ok (assign_prop (spanned lm (lo_of sn (sp ∷ (sl ++ slashes w))) e.1) (ident (first lm inner (on so sn (sp ∷ (sl ++ slashes w)))) nv) e.0, e.1)) else Ok (ident (first lm inner (on so sn (sp ∷ (sl ++ slashes w)))) nv, (on so sp.spot.hi ((z ++ slashes w)))))) sl (twin_no w (at lm assign_kind (on so sp.spot.hi (slashes w))) (parted w (λ z. at lm assign_kind (on so sp.spot.hi z)) refl refl) _ _ _ (twin_ok w _ _ so sp.spot.hi [] refl)) (λ np nq. twin_if w (at lm assign_kind (on so sp.spot.hi (np ∷ (nq ++ regexps w)))) (at lm assign_kind (on so sp.spot.hi (np ∷ (nq ++ slashes w)))) refl _ _ _ _ (λ yes. twin_then w _ _ _ _ (told.expr (with_in c) assignment_level so np.spot.hi nq) (λ ev eo en el. twin_ok w _ _ eo en el refl)) (λ no. twin_ok w _ _ so sp.spot.hi (np ∷ nq) refl)))))
 
   pub prop_by_twin : (c : Code) (o : List ℕ) (n : ℕ) (l : List PlacedToken) → Twins w (prop_by lm inner c (on o n ((l ++ regexps w)))) (prop_by lm inner c (on o n ((l ++ slashes w))))
   unfolding prop_by
@@ -149,7 +149,7 @@ module _ (w : Parting) (inner : Inner Input) (told : Told w inner) where
   unfolding template_by
   template_by_twin c tagged o n p l = twin_then w _ _ _ _ (iterate_twin w _ _ (λ x xo xn xl. quasi_step_twin c tagged x xo xn xl) (record { exprs = []; quasis = [] }) o p.spot.hi l) (λ xv xo xn xl. twin_ok w _ _ xo xn xl refl)
 
-  pub arrow_by_twin : (c : Code) (starto : List ℕ) (startn : ℕ) (startl : List PlacedToken) (async : Bool) (ps : List Tree) (o : List ℕ) (n : ℕ) (p : PlacedToken) (l : List PlacedToken) → Twins w (arrow_by lm inner c (on starto startn ((startl ++ regexps w))) async ps (on o n (p ∷ (l ++ regexps w)))) (arrow_by lm inner c (on starto startn ((startl ++ slashes w))) async ps (on o n (p ∷ (l ++ slashes w))))
+  pub arrow_by_twin : (c : Code) (starto : List ℕ) (startn : ℕ) (startl : List PlacedToken) (async : Bool) (ps : List Tree) (o : List ℕ) (n : ℕ) (p : PlacedToken) (l : List PlacedToken) → Twins w (arrow_by lm inner c (lo_of startn (startl ++ regexps w)) async ps (on o n (p ∷ (l ++ regexps w)))) (arrow_by lm inner c (lo_of startn (startl ++ slashes w)) async ps (on o n (p ∷ (l ++ slashes w))))
   unfolding arrow_by
   arrow_by_twin c starto startn startl async ps o n p l = twin_if w (at lm left_brace_kind (past lm (on o n (p ∷ (l ++ regexps w))))) (at lm left_brace_kind (past lm (on o n (p ∷ (l ++ slashes w))))) (same w (λ z. at lm left_brace_kind (past lm (on o n (p ∷ z)))) refl refl (λ p. refl) (λ p. refl) (λ p q. refl) (λ p q. refl) (λ p q r l m n. refl) l) _ _ _ _ (λ yes. twin_then w _ _ _ _ (told.body (in_list (with_in (in_arrow async c))) o p.spot.hi l) (λ bv bo bn bl. twin_ok w _ _ bo bn bl (ap (λ (z : ℕ). arrow_expr (span z bn) (pack ps) bv async) (lo_same w starto startn startl)))) (λ no. twin_then w _ _ _ _ (told.expr (in_arrow async c) assignment_level o p.spot.hi l) (λ bv bo bn bl. twin_ok w _ _ bo bn bl (ap (λ (z : ℕ). arrow_expr (span z bn) (pack ps) bv async) (lo_same w starto startn startl))))
 
@@ -166,7 +166,7 @@ module _ (w : Parting) (inner : Inner Input) (told : Told w inner) where
       alone (Some (e ∷ es)) = twin_ok w _ _ o n l (ap (λ (z : ℕ). paren_expr (span startp.spot.lo n) (joined (e ∷ es) (span z (last_end xs.items)))) (lo_same w open_o open_n open_l))
 
   pub group_end_twin : (c : Code) (v : ℕ) (starto : List ℕ) (startn : ℕ) (startp : PlacedToken) (startl : List PlacedToken) (open_o : List ℕ) (open_n : ℕ) (open_l : List PlacedToken) (xs : Elements) (o : List ℕ) (n : ℕ) (l : List PlacedToken)
-      → Twins w (group_end lm inner c v (on starto startn (startp ∷ (startl ++ regexps w))) (on open_o open_n (open_l ++ regexps w)) xs (on o n (l ++ regexps w))) (group_end lm inner c v (on starto startn (startp ∷ (startl ++ slashes w))) (on open_o open_n (open_l ++ slashes w)) xs (on o n (l ++ slashes w)))
+      → Twins w (group_end lm inner c v (lo_of startn (startp ∷ (startl ++ regexps w))) (lo_of open_n (open_l ++ regexps w)) xs (on o n (l ++ regexps w))) (group_end lm inner c v (lo_of startn (startp ∷ (startl ++ slashes w))) (lo_of open_n (open_l ++ slashes w)) xs (on o n (l ++ slashes w)))
   unfolding group_end
   group_end_twin c v starto startn startp startl open_o open_n open_l xs o n [] = twin_no w (heads_params lm inner v xs (on o n (slashes w))) (parted w (λ z. heads_params lm inner v xs (on o n z)) refl refl) _ _ _ (closed_twin c starto startn startp startl open_o open_n open_l xs o n [])
   group_end_twin c v starto startn startp startl open_o open_n open_l xs o n (p ∷ q) = twin_if w (heads_params lm inner v xs (on o n (p ∷ (q ++ regexps w)))) (heads_params lm inner v xs (on o n (p ∷ (q ++ slashes w)))) refl _ _ _ _
@@ -176,7 +176,7 @@ module _ (w : Parting) (inner : Inner Input) (told : Told w inner) where
   unfolding group_by
   group_by_twin c v o n p l = twin_then w _ _ _ _ (elements_by_twin (with_in c) false right_paren_kind (refl, refl, refl) o p.spot.hi l) (λ xsv xso xsn xsl. group_end_twin c v o n p l o p.spot.hi l xsv xso xsn xsl)
 
-  pub ident_end_twin : (c : Code) (v : ℕ) (starto : List ℕ) (startn : ℕ) (startp : PlacedToken) (startl : List PlacedToken) (n : List ℕ) (o : List ℕ) (n1 : ℕ) (l : List PlacedToken) → Twins w (ident_end lm inner c v (on starto startn (startp ∷ (startl ++ regexps w))) n (on o n1 ((l ++ regexps w)))) (ident_end lm inner c v (on starto startn (startp ∷ (startl ++ slashes w))) n (on o n1 ((l ++ slashes w))))
+  pub ident_end_twin : (c : Code) (v : ℕ) (starto : List ℕ) (startn : ℕ) (startp : PlacedToken) (startl : List PlacedToken) (n : List ℕ) (o : List ℕ) (n1 : ℕ) (l : List PlacedToken) → Twins w (ident_end lm inner c v (first_span (input lm (on starto startn (startp ∷ (startl ++ regexps w))))) n (on o n1 ((l ++ regexps w)))) (ident_end lm inner c v (first_span (input lm (on starto startn (startp ∷ (startl ++ slashes w))))) n (on o n1 ((l ++ slashes w))))
   unfolding ident_end
   ident_end_twin c v starto startn startp startl n o n1 [] = twin_no w (arrows_at lm inner v (on o n1 (slashes w))) (parted w (λ z. arrows_at lm inner v (on o n1 z)) refl refl) _ _ _ (twin_ok w _ _ o n1 [] refl)
   ident_end_twin c v starto startn startp startl n o n1 (p ∷ l) = twin_if w (arrows_at lm inner v (on o n1 (p ∷ (l ++ regexps w)))) (arrows_at lm inner v (on o n1 (p ∷ (l ++ slashes w)))) refl _ _ _ _ (λ yes. arrow_by_twin c starto startn (startp ∷ startl) false (binding_ident (first lm inner (on starto startn (startp ∷ (startl ++ regexps w)))) (ident (first lm inner (on starto startn (startp ∷ (startl ++ regexps w)))) n) ∷ []) o n1 p l) (λ no. twin_ok w _ _ o n1 (p ∷ l) refl)
@@ -185,16 +185,16 @@ module _ (w : Parting) (inner : Inner Input) (told : Told w inner) where
   unfolding arguments_by
   arguments_by_twin c o n l = twin_then w _ _ _ _ (elements_by_twin c false right_paren_kind (refl, refl, refl) o n l) (λ xsv xso xsn xsl. twin_ok w _ _ xso xsn xsl refl)
 
-  pub async_group_twin : (c : Code) (v : ℕ) (starto : List ℕ) (startn : ℕ) (startp : PlacedToken) (startl : List PlacedToken) (o : List ℕ) (n : ℕ) (p : PlacedToken) (l : List PlacedToken) → Twins w (async_group lm inner c v (on starto startn (startp ∷ (startl ++ regexps w))) (on o n (p ∷ (l ++ regexps w)))) (async_group lm inner c v (on starto startn (startp ∷ (startl ++ slashes w))) (on o n (p ∷ (l ++ slashes w))))
+  pub async_group_twin : (c : Code) (v : ℕ) (starto : List ℕ) (startn : ℕ) (startp : PlacedToken) (startl : List PlacedToken) (o : List ℕ) (n : ℕ) (p : PlacedToken) (l : List PlacedToken) → Twins w (async_group lm inner c v (first_span (input lm (on starto startn (startp ∷ (startl ++ regexps w))))) (text (input lm (on starto startn (startp ∷ (startl ++ regexps w))))) (on o n (p ∷ (l ++ regexps w)))) (async_group lm inner c v (first_span (input lm (on starto startn (startp ∷ (startl ++ slashes w))))) (text (input lm (on starto startn (startp ∷ (startl ++ slashes w))))) (on o n (p ∷ (l ++ slashes w))))
   unfolding async_group
-  async_group_twin c v starto startn startp startl o n p l = twin_then w _ _ _ _ (elements_by_twin (with_in c) false right_paren_kind (refl, refl, refl) o p.spot.hi l) (λ xsv xso xsn xsl. cut w (λ z. Twins w (if heads_params lm inner v xsv (on xso xsn ((z ++ regexps w))) && not (brk (input lm (on o n (p ∷ (l ++ regexps w))))) then (placed (bound lm (on xso xsn ((z ++ regexps w)))) (params_of lm inner xso xsv) >>= λ ps. arrow_by lm inner c (on starto startn (startp ∷ (startl ++ regexps w))) true ps (on xso xsn ((z ++ regexps w)))) else Ok (call_expr (spanned lm (on starto startn (startp ∷ (startl ++ regexps w))) (on xso xsn ((z ++ regexps w)))) (ident (first lm inner (on starto startn (startp ∷ (startl ++ regexps w)))) (text (input lm (on starto startn (startp ∷ (startl ++ regexps w)))))) (pack xsv.items), (on xso xsn ((z ++ regexps w))))) (if heads_params lm inner v xsv (on xso xsn ((z ++ slashes w))) && not (brk (input lm (on o n (p ∷ (l ++ slashes w))))) then (placed (bound lm (on xso xsn ((z ++ slashes w)))) (params_of lm inner xso xsv) >>= λ ps. arrow_by lm inner c (on starto startn (startp ∷ (startl ++ slashes w))) true ps (on xso xsn ((z ++ slashes w)))) else Ok (call_expr (spanned lm (on starto startn (startp ∷ (startl ++ slashes w))) (on xso xsn ((z ++ slashes w)))) (ident (first lm inner (on starto startn (startp ∷ (startl ++ slashes w)))) (text (input lm (on starto startn (startp ∷ (startl ++ slashes w)))))) (pack xsv.items), (on xso xsn ((z ++ slashes w)))))) xsl (twin_no w (heads_params lm inner v xsv (on xso xsn (slashes w)) && not (brk (input lm (on o n (p ∷ (l ++ slashes w)))))) (parted w (λ z. heads_params lm inner v xsv (on xso xsn z) && not (brk (input lm (on o n (p ∷ (l ++ regexps w)))))) refl refl) _ _ _ (twin_ok w _ _ xso xsn [] refl)) (λ xsp xsq. twin_if w (heads_params lm inner v xsv (on xso xsn (xsp ∷ (xsq ++ regexps w))) && not (brk (input lm (on o n (p ∷ (l ++ regexps w)))))) (heads_params lm inner v xsv (on xso xsn (xsp ∷ (xsq ++ slashes w))) && not (brk (input lm (on o n (p ∷ (l ++ slashes w)))))) refl _ _ _ _ (λ yes. twin_placed w _ _ _ _ _ (λ psv. arrow_by_twin c starto startn (startp ∷ startl) true psv xso xsn xsp xsq)) (λ no. twin_ok w _ _ xso xsn (xsp ∷ xsq) refl)))
+  async_group_twin c v starto startn startp startl o n p l = twin_then w _ _ _ _ (elements_by_twin (with_in c) false right_paren_kind (refl, refl, refl) o p.spot.hi l) (λ xsv xso xsn xsl. cut w (λ z. Twins w (if heads_params lm inner v xsv (on xso xsn ((z ++ regexps w))) && not (brk (input lm (on o n (p ∷ (l ++ regexps w))))) then (placed (bound lm (on xso xsn ((z ++ regexps w)))) (params_of lm inner xso xsv) >>= λ ps. arrow_by lm inner c (lo_of startn (startp ∷ (startl ++ regexps w))) true ps (on xso xsn ((z ++ regexps w)))) else Ok (call_expr (spanned lm (lo_of startn (startp ∷ (startl ++ regexps w))) (on xso xsn ((z ++ regexps w)))) (ident (first lm inner (on starto startn (startp ∷ (startl ++ regexps w)))) (text (input lm (on starto startn (startp ∷ (startl ++ regexps w)))))) (pack xsv.items), (on xso xsn ((z ++ regexps w))))) (if heads_params lm inner v xsv (on xso xsn ((z ++ slashes w))) && not (brk (input lm (on o n (p ∷ (l ++ slashes w))))) then (placed (bound lm (on xso xsn ((z ++ slashes w)))) (params_of lm inner xso xsv) >>= λ ps. arrow_by lm inner c (lo_of startn (startp ∷ (startl ++ slashes w))) true ps (on xso xsn ((z ++ slashes w)))) else Ok (call_expr (spanned lm (lo_of startn (startp ∷ (startl ++ slashes w))) (on xso xsn ((z ++ slashes w)))) (ident (first lm inner (on starto startn (startp ∷ (startl ++ slashes w)))) (text (input lm (on starto startn (startp ∷ (startl ++ slashes w)))))) (pack xsv.items), (on xso xsn ((z ++ slashes w)))))) xsl (twin_no w (heads_params lm inner v xsv (on xso xsn (slashes w)) && not (brk (input lm (on o n (p ∷ (l ++ slashes w)))))) (parted w (λ z. heads_params lm inner v xsv (on xso xsn z) && not (brk (input lm (on o n (p ∷ (l ++ regexps w)))))) refl refl) _ _ _ (twin_ok w _ _ xso xsn [] refl)) (λ xsp xsq. twin_if w (heads_params lm inner v xsv (on xso xsn (xsp ∷ (xsq ++ regexps w))) && not (brk (input lm (on o n (p ∷ (l ++ regexps w)))))) (heads_params lm inner v xsv (on xso xsn (xsp ∷ (xsq ++ slashes w))) && not (brk (input lm (on o n (p ∷ (l ++ slashes w)))))) refl _ _ _ _ (λ yes. twin_placed w _ _ _ _ _ (λ psv. arrow_by_twin c starto startn (startp ∷ startl) true psv xso xsn xsp xsq)) (λ no. twin_ok w _ _ xso xsn (xsp ∷ xsq) refl)))
 
-  pub function_expr_name_twin : (c : Code) (starto : List ℕ) (startn : ℕ) (startp : PlacedToken) (startl : List PlacedToken) (generator : Bool) (async : Bool) (o : List ℕ) (n1 : ℕ) (l : List PlacedToken) → Twins w (function_expr_name lm inner c (on starto startn (startp ∷ (startl ++ regexps w))) generator async (on o n1 ((l ++ regexps w)))) (function_expr_name lm inner c (on starto startn (startp ∷ (startl ++ slashes w))) generator async (on o n1 ((l ++ slashes w))))
+  pub function_expr_name_twin : (c : Code) (starto : List ℕ) (startn : ℕ) (startp : PlacedToken) (startl : List PlacedToken) (generator : Bool) (async : Bool) (o : List ℕ) (n1 : ℕ) (l : List PlacedToken) → Twins w (function_expr_name lm inner c (lo_of startn (startp ∷ (startl ++ regexps w))) generator async (on o n1 ((l ++ regexps w)))) (function_expr_name lm inner c (lo_of startn (startp ∷ (startl ++ slashes w))) generator async (on o n1 ((l ++ slashes w))))
   unfolding function_expr_name
   function_expr_name_twin c starto startn startp startl generator async o n1 [] = twin_no w (at lm left_paren_kind (on o n1 (slashes w))) (parted w (λ z. at lm left_paren_kind (on o n1 z)) refl refl) _ _ _ (name_none w (by generator async c) o n1 _ _)
   function_expr_name_twin c starto startn startp startl generator async o n1 (p ∷ l) = twin_if w (at lm left_paren_kind (on o n1 (p ∷ (l ++ regexps w)))) (at lm left_paren_kind (on o n1 (p ∷ (l ++ slashes w)))) refl _ _ _ _ (λ yes. twin_then w _ _ _ _ (function_by_twin c (lo (input lm (on starto startn (startp ∷ (startl ++ regexps w))))) generator async o n1 (p ∷ l)) (λ fv fo fn fl. twin_ok w _ _ fo fn fl refl)) (λ no. name_on w (by generator async c) o n1 p l _ _ (λ nv. twin_then w _ _ _ _ (function_by_twin c (lo (input lm (on starto startn (startp ∷ (startl ++ regexps w))))) generator async o p.spot.hi l) (λ fv fo fn fl. twin_ok w _ _ fo fn fl refl)))
 
-  pub function_expr_by_twin : (c : Code) (starto : List ℕ) (startn : ℕ) (startp : PlacedToken) (startl : List PlacedToken) (async : Bool) (o : List ℕ) (n : ℕ) (l : List PlacedToken) → Twins w (function_expr_by lm inner c (on starto startn (startp ∷ (startl ++ regexps w))) async (on o n ((l ++ regexps w)))) (function_expr_by lm inner c (on starto startn (startp ∷ (startl ++ slashes w))) async (on o n ((l ++ slashes w))))
+  pub function_expr_by_twin : (c : Code) (starto : List ℕ) (startn : ℕ) (startp : PlacedToken) (startl : List PlacedToken) (async : Bool) (o : List ℕ) (n : ℕ) (l : List PlacedToken) → Twins w (function_expr_by lm inner c (lo_of startn (startp ∷ (startl ++ regexps w))) async (on o n ((l ++ regexps w)))) (function_expr_by lm inner c (lo_of startn (startp ∷ (startl ++ slashes w))) async (on o n ((l ++ slashes w))))
   unfolding function_expr_by
   function_expr_by_twin c starto startn startp startl async o n l = word_at w c function_kind (refl, refl, refl) o n l _ _ (λ rn rl. twin_then w _ _ _ _ (star_twin o rn rl) (λ gv go gn gl. function_expr_name_twin c starto startn startp startl gv async go gn gl))
 
@@ -207,9 +207,9 @@ module _ (w : Parting) (inner : Inner Input) (told : Told w inner) where
   pub class_expr_by_twin : (c : Code) (o : List ℕ) (n1 : ℕ) (l : List PlacedToken) → Twins w (class_expr_by lm inner c (on o n1 ((l ++ regexps w)))) (class_expr_by lm inner c (on o n1 ((l ++ slashes w))))
   unfolding class_expr_by
   class_expr_by_twin c o n1 [] = word_none w c class_kind (refl, refl, refl) o n1 _ _
-  class_expr_by_twin c o n1 (p ∷ l) = word_on w c class_kind o n1 p l _ _ (cut w (λ z. Twins w (if is_name lm (turned_strict c) (on o p.spot.hi ((z ++ regexps w))) && not (at lm left_brace_kind (on o p.spot.hi ((z ++ regexps w)))) then (name lm (turned_strict c) (on o p.spot.hi ((z ++ regexps w))) >>= λ n. inner.class_tail (turned_strict (with_in c)) (lo (input lm (on o n1 (p ∷ (l ++ regexps w))))) n.1 >>= λ k. Ok (class_expr (spanned lm (on o n1 (p ∷ (l ++ regexps w))) k.1) (ident (first lm inner (on o p.spot.hi ((z ++ regexps w)))) n.0) k.0, k.1)) else (inner.class_tail (turned_strict (with_in c)) (lo (input lm (on o n1 (p ∷ (l ++ regexps w))))) (on o p.spot.hi ((z ++ regexps w))) >>= λ k. Ok (class_expr (spanned lm (on o n1 (p ∷ (l ++ regexps w))) k.1) absent k.0, k.1))) (if is_name lm (turned_strict c) (on o p.spot.hi ((z ++ slashes w))) && not (at lm left_brace_kind (on o p.spot.hi ((z ++ slashes w)))) then (name lm (turned_strict c) (on o p.spot.hi ((z ++ slashes w))) >>= λ n. inner.class_tail (turned_strict (with_in c)) (lo (input lm (on o n1 (p ∷ (l ++ slashes w))))) n.1 >>= λ k. Ok (class_expr (spanned lm (on o n1 (p ∷ (l ++ slashes w))) k.1) (ident (first lm inner (on o p.spot.hi ((z ++ slashes w)))) n.0) k.0, k.1)) else (inner.class_tail (turned_strict (with_in c)) (lo (input lm (on o n1 (p ∷ (l ++ slashes w))))) (on o p.spot.hi ((z ++ slashes w))) >>= λ k. Ok (class_expr (spanned lm (on o n1 (p ∷ (l ++ slashes w))) k.1) absent k.0, k.1)))) l (twin_no w (is_name lm (turned_strict c) (on o p.spot.hi (slashes w)) && not (at lm left_brace_kind (on o p.spot.hi (slashes w)))) (parted w (λ z. is_name lm (turned_strict c) (on o p.spot.hi z) && not (at lm left_brace_kind (on o p.spot.hi z))) refl refl) _ _ _ (twin_then w _ _ _ _ (told.class_tail (turned_strict (with_in c)) (lo (input lm (on o n1 (p ∷ (l ++ regexps w))))) o p.spot.hi []) (λ kv ko kn kl. twin_ok w _ _ ko kn kl refl))) (λ rp rq. twin_if w (is_name lm (turned_strict c) (on o p.spot.hi (rp ∷ (rq ++ regexps w))) && not (at lm left_brace_kind (on o p.spot.hi (rp ∷ (rq ++ regexps w))))) (is_name lm (turned_strict c) (on o p.spot.hi (rp ∷ (rq ++ slashes w))) && not (at lm left_brace_kind (on o p.spot.hi (rp ∷ (rq ++ slashes w))))) refl _ _ _ _ (λ yes. name_on w (turned_strict c) o p.spot.hi rp rq _ _ (λ nv. twin_then w _ _ _ _ (told.class_tail (turned_strict (with_in c)) (lo (input lm (on o n1 (p ∷ (l ++ regexps w))))) o rp.spot.hi rq) (λ kv ko kn kl. twin_ok w _ _ ko kn kl refl))) (λ no. twin_then w _ _ _ _ (told.class_tail (turned_strict (with_in c)) (lo (input lm (on o n1 (p ∷ (l ++ regexps w))))) o p.spot.hi (rp ∷ rq)) (λ kv ko kn kl. twin_ok w _ _ ko kn kl refl))))
+  class_expr_by_twin c o n1 (p ∷ l) = word_on w c class_kind o n1 p l _ _ (cut w (λ z. Twins w (if is_name lm (turned_strict c) (on o p.spot.hi ((z ++ regexps w))) && not (at lm left_brace_kind (on o p.spot.hi ((z ++ regexps w)))) then (name lm (turned_strict c) (on o p.spot.hi ((z ++ regexps w))) >>= λ n. inner.class_tail (turned_strict (with_in c)) (lo (input lm (on o n1 (p ∷ (l ++ regexps w))))) n.1 >>= λ k. Ok (class_expr (spanned lm (lo_of n1 (p ∷ (l ++ regexps w))) k.1) (ident (first lm inner (on o p.spot.hi ((z ++ regexps w)))) n.0) k.0, k.1)) else (inner.class_tail (turned_strict (with_in c)) (lo (input lm (on o n1 (p ∷ (l ++ regexps w))))) (on o p.spot.hi ((z ++ regexps w))) >>= λ k. Ok (class_expr (spanned lm (lo_of n1 (p ∷ (l ++ regexps w))) k.1) absent k.0, k.1))) (if is_name lm (turned_strict c) (on o p.spot.hi ((z ++ slashes w))) && not (at lm left_brace_kind (on o p.spot.hi ((z ++ slashes w)))) then (name lm (turned_strict c) (on o p.spot.hi ((z ++ slashes w))) >>= λ n. inner.class_tail (turned_strict (with_in c)) (lo (input lm (on o n1 (p ∷ (l ++ slashes w))))) n.1 >>= λ k. Ok (class_expr (spanned lm (lo_of n1 (p ∷ (l ++ slashes w))) k.1) (ident (first lm inner (on o p.spot.hi ((z ++ slashes w)))) n.0) k.0, k.1)) else (inner.class_tail (turned_strict (with_in c)) (lo (input lm (on o n1 (p ∷ (l ++ slashes w))))) (on o p.spot.hi ((z ++ slashes w))) >>= λ k. Ok (class_expr (spanned lm (lo_of n1 (p ∷ (l ++ slashes w))) k.1) absent k.0, k.1)))) l (twin_no w (is_name lm (turned_strict c) (on o p.spot.hi (slashes w)) && not (at lm left_brace_kind (on o p.spot.hi (slashes w)))) (parted w (λ z. is_name lm (turned_strict c) (on o p.spot.hi z) && not (at lm left_brace_kind (on o p.spot.hi z))) refl refl) _ _ _ (twin_then w _ _ _ _ (told.class_tail (turned_strict (with_in c)) (lo (input lm (on o n1 (p ∷ (l ++ regexps w))))) o p.spot.hi []) (λ kv ko kn kl. twin_ok w _ _ ko kn kl refl))) (λ rp rq. twin_if w (is_name lm (turned_strict c) (on o p.spot.hi (rp ∷ (rq ++ regexps w))) && not (at lm left_brace_kind (on o p.spot.hi (rp ∷ (rq ++ regexps w))))) (is_name lm (turned_strict c) (on o p.spot.hi (rp ∷ (rq ++ slashes w))) && not (at lm left_brace_kind (on o p.spot.hi (rp ∷ (rq ++ slashes w))))) refl _ _ _ _ (λ yes. name_on w (turned_strict c) o p.spot.hi rp rq _ _ (λ nv. twin_then w _ _ _ _ (told.class_tail (turned_strict (with_in c)) (lo (input lm (on o n1 (p ∷ (l ++ regexps w))))) o rp.spot.hi rq) (λ kv ko kn kl. twin_ok w _ _ ko kn kl refl))) (λ no. twin_then w _ _ _ _ (told.class_tail (turned_strict (with_in c)) (lo (input lm (on o n1 (p ∷ (l ++ regexps w))))) o p.spot.hi (rp ∷ rq)) (λ kv ko kn kl. twin_ok w _ _ ko kn kl refl))))
 
-  pub new_end_twin : (c : Code) (starto : List ℕ) (startn : ℕ) (startl : List PlacedToken) (f : Tree) (o : List ℕ) (n : ℕ) (l : List PlacedToken) → Twins w (new_end lm inner c (on starto startn ((startl ++ regexps w))) f (on o n ((l ++ regexps w)))) (new_end lm inner c (on starto startn ((startl ++ slashes w))) f (on o n ((l ++ slashes w))))
+  pub new_end_twin : (c : Code) (starto : List ℕ) (startn : ℕ) (startl : List PlacedToken) (f : Tree) (o : List ℕ) (n : ℕ) (l : List PlacedToken) → Twins w (new_end lm inner c (lo_of startn (startl ++ regexps w)) f (on o n ((l ++ regexps w)))) (new_end lm inner c (lo_of startn (startl ++ slashes w)) f (on o n ((l ++ slashes w))))
   unfolding new_end
   new_end_twin c starto startn startl f o n [] = twin_no w (at lm left_paren_kind (on o n (slashes w)) && nat_le member_level (level f)) (parted w (λ z. at lm left_paren_kind (on o n z) && nat_le member_level (level f)) refl refl) _ _ _ (twin_if w ((nat_le member_level (level f) || (level f == new_level)) && nat_lt (goes_expr c other_end (input lm (on o n (regexps w)))) call_level) ((nat_le member_level (level f) || (level f == new_level)) && nat_lt (goes_expr c other_end (input lm (on o n (slashes w)))) call_level) (parted w (λ z. (nat_le member_level (level f) || (level f == new_level)) && nat_lt (goes_expr c other_end (input lm (on o n z))) call_level) refl refl) _ _ _ _ (λ yes. twin_ok w _ _ o n [] (ap (λ (z : ℕ). new_expr (span z n) f absent) (lo_same w starto startn startl))) (λ no. never w _ _))
   new_end_twin c starto startn startl f o n (p ∷ l) = twin_if w (at lm left_paren_kind (on o n (p ∷ (l ++ regexps w))) && nat_le member_level (level f)) (at lm left_paren_kind (on o n (p ∷ (l ++ slashes w))) && nat_le member_level (level f)) refl _ _ _ _ (λ yes. twin_then w _ _ _ _ (arguments_by_twin c o p.spot.hi l) (λ xsv xso xsn xsl. twin_ok w _ _ xso xsn xsl (ap (λ (z : ℕ). new_expr (span z xsn) f (list (pack xsv))) (lo_same w starto startn startl)))) (λ no. twin_if w ((nat_le member_level (level f) || (level f == new_level)) && nat_lt (goes_expr c other_end (input lm (on o n (p ∷ (l ++ regexps w))))) call_level) ((nat_le member_level (level f) || (level f == new_level)) && nat_lt (goes_expr c other_end (input lm (on o n (p ∷ (l ++ slashes w))))) call_level) (same w (λ z. (nat_le member_level (level f) || (level f == new_level)) && nat_lt (goes_expr c other_end (input lm (on o n (p ∷ z)))) call_level) refl refl (λ p. refl) (λ p. refl) (λ p q. refl) (λ p q. refl) (λ p q r l m n. refl) l) _ _ _ _ (λ yes. twin_ok w _ _ o n (p ∷ l) (ap (λ (z : ℕ). new_expr (span z n) f absent) (lo_same w starto startn startl))) (λ no. never w _ _))
@@ -222,17 +222,17 @@ module _ (w : Parting) (inner : Inner Input) (told : Told w inner) where
   pub new_by_twin : (c : Code) (o : List ℕ) (n : ℕ) (l : List PlacedToken) → Twins w (new_by lm inner c (on o n ((l ++ regexps w)))) (new_by lm inner c (on o n ((l ++ slashes w))))
   unfolding new_by
   new_by_twin c o n [] = word_none w c new_kind (refl, refl, refl) o n _ _
-  new_by_twin c o n (p ∷ l) = word_on w c new_kind o n p l _ _ (cut w (λ z. Twins w (if at lm dot_kind (on o p.spot.hi ((z ++ regexps w))) then (eat_word lm c target_kind (past lm (on o p.spot.hi ((z ++ regexps w)))) >>= λ t. Ok (meta_prop_expr (spanned lm (on o n (p ∷ (l ++ regexps w))) t) new_kind, t)) else (callee_by lm inner c (on o p.spot.hi ((z ++ regexps w))) >>= λ f. new_end lm inner c (on o n (p ∷ (l ++ regexps w))) f.0 f.1)) (if at lm dot_kind (on o p.spot.hi ((z ++ slashes w))) then (eat_word lm c target_kind (past lm (on o p.spot.hi ((z ++ slashes w)))) >>= λ t. Ok (meta_prop_expr (spanned lm (on o n (p ∷ (l ++ slashes w))) t) new_kind, t)) else (callee_by lm inner c (on o p.spot.hi ((z ++ slashes w))) >>= λ f. new_end lm inner c (on o n (p ∷ (l ++ slashes w))) f.0 f.1))) l (twin_no w (at lm dot_kind (on o p.spot.hi (slashes w))) (parted w (λ z. at lm dot_kind (on o p.spot.hi z)) refl refl) _ _ _ (twin_then w _ _ _ _ (callee_by_twin c o p.spot.hi []) (λ fv fo fn fl. new_end_twin c o n (p ∷ l) fv fo fn fl))) (λ rp rq. twin_if w (at lm dot_kind (on o p.spot.hi (rp ∷ (rq ++ regexps w)))) (at lm dot_kind (on o p.spot.hi (rp ∷ (rq ++ slashes w)))) refl _ _ _ _ (λ yes. word_at w c target_kind (refl, refl, refl) o rp.spot.hi rq _ _ (λ tn tl. twin_ok w _ _ o tn tl refl)) (λ no. twin_then w _ _ _ _ (callee_by_twin c o p.spot.hi (rp ∷ rq)) (λ fv fo fn fl. new_end_twin c o n (p ∷ l) fv fo fn fl))))
+  new_by_twin c o n (p ∷ l) = word_on w c new_kind o n p l _ _ (cut w (λ z. Twins w (if at lm dot_kind (on o p.spot.hi ((z ++ regexps w))) then (eat_word lm c target_kind (past lm (on o p.spot.hi ((z ++ regexps w)))) >>= λ t. Ok (meta_prop_expr (spanned lm (lo_of n (p ∷ (l ++ regexps w))) t) new_kind, t)) else (callee_by lm inner c (on o p.spot.hi ((z ++ regexps w))) >>= λ f. new_end lm inner c (lo_of n (p ∷ (l ++ regexps w))) f.0 f.1)) (if at lm dot_kind (on o p.spot.hi ((z ++ slashes w))) then (eat_word lm c target_kind (past lm (on o p.spot.hi ((z ++ slashes w)))) >>= λ t. Ok (meta_prop_expr (spanned lm (lo_of n (p ∷ (l ++ slashes w))) t) new_kind, t)) else (callee_by lm inner c (on o p.spot.hi ((z ++ slashes w))) >>= λ f. new_end lm inner c (lo_of n (p ∷ (l ++ slashes w))) f.0 f.1))) l (twin_no w (at lm dot_kind (on o p.spot.hi (slashes w))) (parted w (λ z. at lm dot_kind (on o p.spot.hi z)) refl refl) _ _ _ (twin_then w _ _ _ _ (callee_by_twin c o p.spot.hi []) (λ fv fo fn fl. new_end_twin c o n (p ∷ l) fv fo fn fl))) (λ rp rq. twin_if w (at lm dot_kind (on o p.spot.hi (rp ∷ (rq ++ regexps w)))) (at lm dot_kind (on o p.spot.hi (rp ∷ (rq ++ slashes w)))) refl _ _ _ _ (λ yes. word_at w c target_kind (refl, refl, refl) o rp.spot.hi rq _ _ (λ tn tl. twin_ok w _ _ o tn tl refl)) (λ no. twin_then w _ _ _ _ (callee_by_twin c o p.spot.hi (rp ∷ rq)) (λ fv fo fn fl. new_end_twin c o n (p ∷ l) fv fo fn fl))))
 
-  pub super_end_twin : (c : Code) (starto : List ℕ) (startn : ℕ) (startp : PlacedToken) (startl : List PlacedToken) (o : List ℕ) (n1 : ℕ) (l : List PlacedToken) → Twins w (super_end lm inner c (on starto startn (startp ∷ (startl ++ regexps w))) (on o n1 ((l ++ regexps w)))) (super_end lm inner c (on starto startn (startp ∷ (startl ++ slashes w))) (on o n1 ((l ++ slashes w))))
+  pub super_end_twin : (c : Code) (starto : List ℕ) (startn : ℕ) (startp : PlacedToken) (startl : List PlacedToken) (o : List ℕ) (n1 : ℕ) (l : List PlacedToken) → Twins w (super_end lm inner c (first_span (input lm (on starto startn (startp ∷ (startl ++ regexps w))))) (on o n1 ((l ++ regexps w)))) (super_end lm inner c (first_span (input lm (on starto startn (startp ∷ (startl ++ slashes w))))) (on o n1 ((l ++ slashes w))))
   unfolding super_end eat
   super_end_twin c starto startn startp startl o n1 [] = never w _ _
-  super_end_twin c starto startn startp startl o n1 (p ∷ l) = twin_if w (at lm left_paren_kind (on o n1 (p ∷ (l ++ regexps w)))) (at lm left_paren_kind (on o n1 (p ∷ (l ++ slashes w)))) refl _ _ _ _ (λ yes. twin_then w _ _ _ _ (arguments_by_twin c o p.spot.hi l) (λ xsv xso xsn xsl. twin_ok w _ _ xso xsn xsl refl)) (λ no. twin_if w (at lm left_bracket_kind (on o n1 (p ∷ (l ++ regexps w)))) (at lm left_bracket_kind (on o n1 (p ∷ (l ++ slashes w)))) refl _ _ _ _ (λ yes. twin_then w _ _ _ _ (computed_by_twin c expression_level o n1 p l) (λ kv ko kn kl. twin_ok w _ _ ko kn kl refl)) (λ no. eat_on w dot_kind o n1 p l _ _ (cut w (λ z. Twins w (any_word lm (on o p.spot.hi ((z ++ regexps w))) >>= λ n. Ok (super_prop_expr (spanned lm (on starto startn (startp ∷ (startl ++ regexps w))) n.1) (super (first lm inner (on starto startn (startp ∷ (startl ++ regexps w))))) (ident_name (first lm inner (on o p.spot.hi ((z ++ regexps w)))) n.0), n.1)) (any_word lm (on o p.spot.hi ((z ++ slashes w))) >>= λ n. Ok (super_prop_expr (spanned lm (on starto startn (startp ∷ (startl ++ slashes w))) n.1) (super (first lm inner (on starto startn (startp ∷ (startl ++ slashes w))))) (ident_name (first lm inner (on o p.spot.hi ((z ++ slashes w)))) n.0), n.1))) l (any_none w o p.spot.hi _ _) (λ dp dq. any_on w o p.spot.hi dp dq _ _ (λ nv. twin_ok w _ _ o dp.spot.hi dq refl)))))
+  super_end_twin c starto startn startp startl o n1 (p ∷ l) = twin_if w (at lm left_paren_kind (on o n1 (p ∷ (l ++ regexps w)))) (at lm left_paren_kind (on o n1 (p ∷ (l ++ slashes w)))) refl _ _ _ _ (λ yes. twin_then w _ _ _ _ (arguments_by_twin c o p.spot.hi l) (λ xsv xso xsn xsl. twin_ok w _ _ xso xsn xsl refl)) (λ no. twin_if w (at lm left_bracket_kind (on o n1 (p ∷ (l ++ regexps w)))) (at lm left_bracket_kind (on o n1 (p ∷ (l ++ slashes w)))) refl _ _ _ _ (λ yes. twin_then w _ _ _ _ (computed_by_twin c expression_level o n1 p l) (λ kv ko kn kl. twin_ok w _ _ ko kn kl refl)) (λ no. eat_on w dot_kind o n1 p l _ _ (cut w (λ z. Twins w (any_word lm (on o p.spot.hi ((z ++ regexps w))) >>= λ n. Ok (super_prop_expr (spanned lm (lo_of startn (startp ∷ (startl ++ regexps w))) n.1) (super (first lm inner (on starto startn (startp ∷ (startl ++ regexps w))))) (ident_name (first lm inner (on o p.spot.hi ((z ++ regexps w)))) n.0), n.1)) (any_word lm (on o p.spot.hi ((z ++ slashes w))) >>= λ n. Ok (super_prop_expr (spanned lm (lo_of startn (startp ∷ (startl ++ slashes w))) n.1) (super (first lm inner (on starto startn (startp ∷ (startl ++ slashes w))))) (ident_name (first lm inner (on o p.spot.hi ((z ++ slashes w)))) n.0), n.1))) l (any_none w o p.spot.hi _ _) (λ dp dq. any_on w o p.spot.hi dp dq _ _ (λ nv. twin_ok w _ _ o dp.spot.hi dq refl)))))
 
   pub import_by_twin : (c : Code) (o1 : List ℕ) (n : ℕ) (l : List PlacedToken) → Twins w (import_by lm inner c (on o1 n ((l ++ regexps w)))) (import_by lm inner c (on o1 n ((l ++ slashes w))))
   unfolding import_by
   import_by_twin c o1 n [] = word_none w c import_kind (refl, refl, refl) o1 n _ _
-  import_by_twin c o1 n (p ∷ l) = word_on w c import_kind o1 n p l _ _ (cut w (λ z. Twins w (if at lm dot_kind (on o1 p.spot.hi ((z ++ regexps w))) then (eat_word lm c meta_kind (past lm (on o1 p.spot.hi ((z ++ regexps w)))) >>= λ t. Ok (meta_prop_expr (spanned lm (on o1 n (p ∷ (l ++ regexps w))) t) import_kind, t)) else (eat lm left_paren_kind (on o1 p.spot.hi ((z ++ regexps w))) >>= λ o. elements_by lm inner c false right_paren_kind o >>= λ xs. if fits_import lm inner c xs.0 then Ok (call_expr (spanned lm (on o1 n (p ∷ (l ++ regexps w))) xs.1) (import (first lm inner (on o1 n (p ∷ (l ++ regexps w))))) (pack xs.0.items), xs.1) else unexpected lm xs.1)) (if at lm dot_kind (on o1 p.spot.hi ((z ++ slashes w))) then (eat_word lm c meta_kind (past lm (on o1 p.spot.hi ((z ++ slashes w)))) >>= λ t. Ok (meta_prop_expr (spanned lm (on o1 n (p ∷ (l ++ slashes w))) t) import_kind, t)) else (eat lm left_paren_kind (on o1 p.spot.hi ((z ++ slashes w))) >>= λ o. elements_by lm inner c false right_paren_kind o >>= λ xs. if fits_import lm inner c xs.0 then Ok (call_expr (spanned lm (on o1 n (p ∷ (l ++ slashes w))) xs.1) (import (first lm inner (on o1 n (p ∷ (l ++ slashes w))))) (pack xs.0.items), xs.1) else unexpected lm xs.1))) l (twin_no w (at lm dot_kind (on o1 p.spot.hi (slashes w))) (parted w (λ z. at lm dot_kind (on o1 p.spot.hi z)) refl refl) _ _ _ (eat_none w left_paren_kind (refl, refl, refl) o1 p.spot.hi _ _)) (λ rp rq. twin_if w (at lm dot_kind (on o1 p.spot.hi (rp ∷ (rq ++ regexps w)))) (at lm dot_kind (on o1 p.spot.hi (rp ∷ (rq ++ slashes w)))) refl _ _ _ _ (λ yes. word_at w c meta_kind (refl, refl, refl) o1 rp.spot.hi rq _ _ (λ tn tl. twin_ok w _ _ o1 tn tl refl)) (λ no. eat_on w left_paren_kind o1 p.spot.hi rp rq _ _ (twin_then w _ _ _ _ (elements_by_twin c false right_paren_kind (refl, refl, refl) o1 rp.spot.hi rq) (λ xsv xso xsn xsl. twin_if w (fits_import lm inner c xsv) (fits_import lm inner c xsv) refl _ _ _ _ (λ yes. twin_ok w _ _ xso xsn xsl refl) (λ no. never w _ _))))))
+  import_by_twin c o1 n (p ∷ l) = word_on w c import_kind o1 n p l _ _ (cut w (λ z. Twins w (if at lm dot_kind (on o1 p.spot.hi ((z ++ regexps w))) then (eat_word lm c meta_kind (past lm (on o1 p.spot.hi ((z ++ regexps w)))) >>= λ t. Ok (meta_prop_expr (spanned lm (lo_of n (p ∷ (l ++ regexps w))) t) import_kind, t)) else (eat lm left_paren_kind (on o1 p.spot.hi ((z ++ regexps w))) >>= λ o. elements_by lm inner c false right_paren_kind o >>= λ xs. if fits_import lm inner c xs.0 then Ok (call_expr (spanned lm (lo_of n (p ∷ (l ++ regexps w))) xs.1) (import (first lm inner (on o1 n (p ∷ (l ++ regexps w))))) (pack xs.0.items), xs.1) else unexpected lm xs.1)) (if at lm dot_kind (on o1 p.spot.hi ((z ++ slashes w))) then (eat_word lm c meta_kind (past lm (on o1 p.spot.hi ((z ++ slashes w)))) >>= λ t. Ok (meta_prop_expr (spanned lm (lo_of n (p ∷ (l ++ slashes w))) t) import_kind, t)) else (eat lm left_paren_kind (on o1 p.spot.hi ((z ++ slashes w))) >>= λ o. elements_by lm inner c false right_paren_kind o >>= λ xs. if fits_import lm inner c xs.0 then Ok (call_expr (spanned lm (lo_of n (p ∷ (l ++ slashes w))) xs.1) (import (first lm inner (on o1 n (p ∷ (l ++ slashes w))))) (pack xs.0.items), xs.1) else unexpected lm xs.1))) l (twin_no w (at lm dot_kind (on o1 p.spot.hi (slashes w))) (parted w (λ z. at lm dot_kind (on o1 p.spot.hi z)) refl refl) _ _ _ (eat_none w left_paren_kind (refl, refl, refl) o1 p.spot.hi _ _)) (λ rp rq. twin_if w (at lm dot_kind (on o1 p.spot.hi (rp ∷ (rq ++ regexps w)))) (at lm dot_kind (on o1 p.spot.hi (rp ∷ (rq ++ slashes w)))) refl _ _ _ _ (λ yes. word_at w c meta_kind (refl, refl, refl) o1 rp.spot.hi rq _ _ (λ tn tl. twin_ok w _ _ o1 tn tl refl)) (λ no. eat_on w left_paren_kind o1 p.spot.hi rp rq _ _ (twin_then w _ _ _ _ (elements_by_twin c false right_paren_kind (refl, refl, refl) o1 rp.spot.hi rq) (λ xsv xso xsn xsl. twin_if w (fits_import lm inner c xsv) (fits_import lm inner c xsv) refl _ _ _ _ (λ yes. twin_ok w _ _ xso xsn xsl refl) (λ no. never w _ _))))))
 
   pub unary_by_twin : (c : Code) (o : List ℕ) (n : ℕ) (p : PlacedToken) (l : List PlacedToken) → Twins w (unary_by lm inner c (on o n (p ∷ (l ++ regexps w)))) (unary_by lm inner c (on o n (p ∷ (l ++ slashes w))))
   unfolding unary_by
@@ -247,7 +247,7 @@ module _ (w : Parting) (inner : Inner Input) (told : Told w inner) where
   await_by_twin c o n [] = word_none w c await_kind (refl, refl, refl) o n _ _
   await_by_twin c o n (p ∷ l) = word_on w c await_kind o n p l _ _ (twin_then w _ _ _ _ (told.expr c unary_level o p.spot.hi l) (λ ev eo en el. twin_ok w _ _ eo en el refl))
 
-  pub yield_end_twin : (c : Code) (so : List ℕ) (sn : ℕ) (sl : List PlacedToken) (o : List ℕ) (n : ℕ) (l : List PlacedToken) → Twins w (yield_end lm inner c (on so sn ((sl ++ regexps w))) (on o n ((l ++ regexps w)))) (yield_end lm inner c (on so sn ((sl ++ slashes w))) (on o n ((l ++ slashes w))))
+  pub yield_end_twin : (c : Code) (so : List ℕ) (sn : ℕ) (sl : List PlacedToken) (o : List ℕ) (n : ℕ) (l : List PlacedToken) → Twins w (yield_end lm inner c (lo_of sn (sl ++ regexps w)) (on o n ((l ++ regexps w)))) (yield_end lm inner c (lo_of sn (sl ++ slashes w)) (on o n ((l ++ slashes w))))
   unfolding yield_end
   yield_end_twin c so sn sl o n [] = twin_if w (brk (input lm (on o n (regexps w))) || ends_yield lm inner (kind (input lm (on o n (regexps w))))) (brk (input lm (on o n (slashes w))) || ends_yield lm inner (kind (input lm (on o n (slashes w))))) (parted w (λ z. brk (input lm (on o n z)) || ends_yield lm inner (kind (input lm (on o n z)))) refl refl) _ _ _ _ (λ yes. twin_ok w _ _ o n [] (ap (λ (z : ℕ). yield_expr (span z n) absent false) (lo_same w so sn sl))) (λ no. twin_no w (at lm mul_kind (on o n (slashes w))) (parted w (λ z. at lm mul_kind (on o n z)) refl refl) _ _ _ (twin_then w _ _ _ _ (told.expr c assignment_level o n []) (λ ev eo en el. twin_ok w _ _ eo en el (ap (λ (z : ℕ). yield_expr (span z en) ev false) (lo_same w so sn sl)))))
   yield_end_twin c so sn sl o n (p ∷ l) = twin_if w (brk (input lm (on o n (p ∷ (l ++ regexps w)))) || ends_yield lm inner (kind (input lm (on o n (p ∷ (l ++ regexps w)))))) (brk (input lm (on o n (p ∷ (l ++ slashes w)))) || ends_yield lm inner (kind (input lm (on o n (p ∷ (l ++ slashes w)))))) refl _ _ _ _ (λ yes. twin_ok w _ _ o n (p ∷ l) (ap (λ (z : ℕ). yield_expr (span z n) absent false) (lo_same w so sn sl))) (λ no. twin_if w (at lm mul_kind (on o n (p ∷ (l ++ regexps w)))) (at lm mul_kind (on o n (p ∷ (l ++ slashes w)))) refl _ _ _ _ (λ yes. twin_then w _ _ _ _ (told.expr c assignment_level o p.spot.hi l) (λ ev eo en el. twin_ok w _ _ eo en el (ap (λ (z : ℕ). yield_expr (span z en) ev true) (lo_same w so sn sl)))) (λ no. twin_then w _ _ _ _ (told.expr c assignment_level o n (p ∷ l)) (λ ev eo en el. twin_ok w _ _ eo en el (ap (λ (z : ℕ). yield_expr (span z en) ev false) (lo_same w so sn sl)))))
@@ -279,42 +279,42 @@ module _ (w : Parting) (inner : Inner Input) (told : Told w inner) where
   member_name_twin may_private o n1 [] = twin_no w (at lm hash_kind (on o n1 (slashes w))) (parted w (λ z. at lm hash_kind (on o n1 z)) refl refl) _ _ _ (any_none w o n1 _ _)
   member_name_twin may_private o n1 (p ∷ l) = twin_if w (at lm hash_kind (on o n1 (p ∷ (l ++ regexps w)))) (at lm hash_kind (on o n1 (p ∷ (l ++ slashes w)))) refl _ _ _ _ (λ yes. twin_if w (may_private) (may_private) refl _ _ _ _ (λ yes. private_by_twin o n1 (p ∷ l)) (λ no. never w _ _)) (λ no. any_on w o n1 p l _ _ (λ nv. twin_ok w _ _ o p.spot.hi l refl))
 
-  pub member_by_twin : (c : Code) (starto : List ℕ) (startn : ℕ) (startl : List PlacedToken) (t : Tree) (o : List ℕ) (n : ℕ) (p : PlacedToken) (l : List PlacedToken) → Twins w (member_by lm inner c (on starto startn ((startl ++ regexps w))) t (on o n (p ∷ (l ++ regexps w)))) (member_by lm inner c (on starto startn ((startl ++ slashes w))) t (on o n (p ∷ (l ++ slashes w))))
+  pub member_by_twin : (c : Code) (starto : List ℕ) (startn : ℕ) (startl : List PlacedToken) (t : Tree) (o : List ℕ) (n : ℕ) (p : PlacedToken) (l : List PlacedToken) → Twins w (member_by lm inner c (lo_of startn (startl ++ regexps w)) t (on o n (p ∷ (l ++ regexps w)))) (member_by lm inner c (lo_of startn (startl ++ slashes w)) t (on o n (p ∷ (l ++ slashes w))))
   unfolding member_by
   member_by_twin c starto startn startl t o n p l = twin_then w _ _ _ _ (member_name_twin true o p.spot.hi l) (λ kv ko kn kl. twin_ok w _ _ ko kn kl (ap (λ (z : ℕ). on_chain lm inner (is_chain t) (span z kn) (member_expr (span z kn) t kv)) (lo_same w starto startn startl)))
 
-  pub index_by_twin : (c : Code) (starto : List ℕ) (startn : ℕ) (startl : List PlacedToken) (t : Tree) (o : List ℕ) (n : ℕ) (p : PlacedToken) (l : List PlacedToken) → Twins w (index_by lm inner c (on starto startn ((startl ++ regexps w))) t (on o n (p ∷ (l ++ regexps w)))) (index_by lm inner c (on starto startn ((startl ++ slashes w))) t (on o n (p ∷ (l ++ slashes w))))
+  pub index_by_twin : (c : Code) (starto : List ℕ) (startn : ℕ) (startl : List PlacedToken) (t : Tree) (o : List ℕ) (n : ℕ) (p : PlacedToken) (l : List PlacedToken) → Twins w (index_by lm inner c (lo_of startn (startl ++ regexps w)) t (on o n (p ∷ (l ++ regexps w)))) (index_by lm inner c (lo_of startn (startl ++ slashes w)) t (on o n (p ∷ (l ++ slashes w))))
   unfolding index_by
   index_by_twin c starto startn startl t o n p l = twin_then w _ _ _ _ (computed_by_twin c expression_level o n p l) (λ kv ko kn kl. twin_ok w _ _ ko kn kl (ap (λ (z : ℕ). on_chain lm inner (is_chain t) (span z kn) (member_expr (span z kn) t kv)) (lo_same w starto startn startl)))
 
-  pub call_by_twin : (c : Code) (starto : List ℕ) (startn : ℕ) (startl : List PlacedToken) (t : Tree) (o : List ℕ) (n : ℕ) (p : PlacedToken) (l : List PlacedToken) → Twins w (call_by lm inner c (on starto startn ((startl ++ regexps w))) t (on o n (p ∷ (l ++ regexps w)))) (call_by lm inner c (on starto startn ((startl ++ slashes w))) t (on o n (p ∷ (l ++ slashes w))))
+  pub call_by_twin : (c : Code) (starto : List ℕ) (startn : ℕ) (startl : List PlacedToken) (t : Tree) (o : List ℕ) (n : ℕ) (p : PlacedToken) (l : List PlacedToken) → Twins w (call_by lm inner c (lo_of startn (startl ++ regexps w)) t (on o n (p ∷ (l ++ regexps w)))) (call_by lm inner c (lo_of startn (startl ++ slashes w)) t (on o n (p ∷ (l ++ slashes w))))
   unfolding call_by
   call_by_twin c starto startn startl t o n p l = twin_then w _ _ _ _ (arguments_by_twin c o p.spot.hi l) (λ xsv xso xsn xsl. twin_ok w _ _ xso xsn xsl (ap (λ (z : ℕ). call_tree lm inner (span z xsn) t xsv) (lo_same w starto startn startl)))
 
-  pub chain_by_twin : (c : Code) (starto : List ℕ) (startn : ℕ) (startl : List PlacedToken) (t : Tree) (o : List ℕ) (n : ℕ) (l : List PlacedToken) → Twins w (chain_by lm inner c (on starto startn ((startl ++ regexps w))) t (on o n ((l ++ regexps w)))) (chain_by lm inner c (on starto startn ((startl ++ slashes w))) t (on o n ((l ++ slashes w))))
+  pub chain_by_twin : (c : Code) (starto : List ℕ) (startn : ℕ) (startl : List PlacedToken) (t : Tree) (o : List ℕ) (n : ℕ) (l : List PlacedToken) → Twins w (chain_by lm inner c (lo_of startn (startl ++ regexps w)) t (on o n ((l ++ regexps w)))) (chain_by lm inner c (lo_of startn (startl ++ slashes w)) t (on o n ((l ++ slashes w))))
   unfolding chain_by
   chain_by_twin c starto startn startl t o n [] = twin_no w (at lm left_paren_kind (on o n (slashes w))) (parted w (λ z. at lm left_paren_kind (on o n z)) refl refl) _ _ _ (twin_no w (at lm left_bracket_kind (on o n (slashes w))) (parted w (λ z. at lm left_bracket_kind (on o n z)) refl refl) _ _ _ (twin_then w _ _ _ _ (member_name_twin true o n []) (λ kv ko kn kl. twin_ok w _ _ ko kn kl (ap (λ (z : ℕ). opt_chain_expr (span z kn) true (member_expr (span z kn) t kv)) (lo_same w starto startn startl)))))
   chain_by_twin c starto startn startl t o n (p ∷ l) = twin_if w (at lm left_paren_kind (on o n (p ∷ (l ++ regexps w)))) (at lm left_paren_kind (on o n (p ∷ (l ++ slashes w)))) refl _ _ _ _ (λ yes. twin_then w _ _ _ _ (arguments_by_twin c o p.spot.hi l) (λ xsv xso xsn xsl. twin_ok w _ _ xso xsn xsl (ap (λ (z : ℕ). opt_chain_expr (span z xsn) true (opt_call (span z xsn) t (pack xsv))) (lo_same w starto startn startl)))) (λ no. twin_if w (at lm left_bracket_kind (on o n (p ∷ (l ++ regexps w)))) (at lm left_bracket_kind (on o n (p ∷ (l ++ slashes w)))) refl _ _ _ _ (λ yes. twin_then w _ _ _ _ (computed_by_twin c expression_level o n p l) (λ kv ko kn kl. twin_ok w _ _ ko kn kl (ap (λ (z : ℕ). opt_chain_expr (span z kn) true (member_expr (span z kn) t kv)) (lo_same w starto startn startl)))) (λ no. twin_then w _ _ _ _ (member_name_twin true o n (p ∷ l)) (λ kv ko kn kl. twin_ok w _ _ ko kn kl (ap (λ (z : ℕ). opt_chain_expr (span z kn) true (member_expr (span z kn) t kv)) (lo_same w starto startn startl)))))
 
-  pub cond_by_twin : (c : Code) (starto : List ℕ) (startn : ℕ) (startl : List PlacedToken) (t : Tree) (o : List ℕ) (n : ℕ) (p : PlacedToken) (l : List PlacedToken) → Twins w (cond_by lm inner c (on starto startn ((startl ++ regexps w))) t (on o n (p ∷ (l ++ regexps w)))) (cond_by lm inner c (on starto startn ((startl ++ slashes w))) t (on o n (p ∷ (l ++ slashes w))))
+  pub cond_by_twin : (c : Code) (starto : List ℕ) (startn : ℕ) (startl : List PlacedToken) (t : Tree) (o : List ℕ) (n : ℕ) (p : PlacedToken) (l : List PlacedToken) → Twins w (cond_by lm inner c (lo_of startn (startl ++ regexps w)) t (on o n (p ∷ (l ++ regexps w)))) (cond_by lm inner c (lo_of startn (startl ++ slashes w)) t (on o n (p ∷ (l ++ slashes w))))
   unfolding cond_by
   cond_by_twin c starto startn startl t o n p l = twin_then w _ _ _ _ (told.expr (with_in c) assignment_level o p.spot.hi l) (λ av ao an al. eat_at w colon_kind (refl, refl, refl) ao an al _ _ (λ rn rl. twin_then w _ _ _ _ (told.expr c assignment_level ao rn rl) (λ bv bo bn bl. twin_ok w _ _ bo bn bl (ap (λ (z : ℕ). cond_expr (span z bn) t av bv) (lo_same w starto startn startl)))))
 
-  pub assign_by_twin : (c : Code) (starto : List ℕ) (startn : ℕ) (startl : List PlacedToken) (t : Tree) (o : List ℕ) (n : ℕ) (p1 : PlacedToken) (l : List PlacedToken) → Twins w (assign_by lm inner c (on starto startn ((startl ++ regexps w))) t (on o n (p1 ∷ (l ++ regexps w)))) (assign_by lm inner c (on starto startn ((startl ++ slashes w))) t (on o n (p1 ∷ (l ++ slashes w))))
+  pub assign_by_twin : (c : Code) (starto : List ℕ) (startn : ℕ) (startl : List PlacedToken) (t : Tree) (o : List ℕ) (n : ℕ) (p1 : PlacedToken) (l : List PlacedToken) → Twins w (assign_by lm inner c (lo_of startn (startl ++ regexps w)) t (on o n (p1 ∷ (l ++ regexps w)))) (assign_by lm inner c (lo_of startn (startl ++ slashes w)) t (on o n (p1 ∷ (l ++ slashes w))))
   unfolding assign_by
   assign_by_twin c starto startn startl t o n p1 l = twin_placed w _ _ _ _ _ (λ pv. twin_then w _ _ _ _ (told.expr c assignment_level o p1.spot.hi l) (λ ev eo en el. twin_ok w _ _ eo en el (ap (λ (z : ℕ). assign_expr (span z en) (kind (input lm (on o n (p1 ∷ (l ++ regexps w))))) pv ev) (lo_same w starto startn startl))))
 
-  pub binary_by_twin : (c : Code) (starto : List ℕ) (startn : ℕ) (startl : List PlacedToken) (t : Tree) (o : List ℕ) (n : ℕ) (p : PlacedToken) (l : List PlacedToken) → Twins w (binary_by lm inner c (on starto startn ((startl ++ regexps w))) t (on o n (p ∷ (l ++ regexps w)))) (binary_by lm inner c (on starto startn ((startl ++ slashes w))) t (on o n (p ∷ (l ++ slashes w))))
+  pub binary_by_twin : (c : Code) (starto : List ℕ) (startn : ℕ) (startl : List PlacedToken) (t : Tree) (o : List ℕ) (n : ℕ) (p : PlacedToken) (l : List PlacedToken) → Twins w (binary_by lm inner c (lo_of startn (startl ++ regexps w)) t (on o n (p ∷ (l ++ regexps w)))) (binary_by lm inner c (lo_of startn (startl ++ slashes w)) t (on o n (p ∷ (l ++ slashes w))))
   unfolding binary_by
   binary_by_twin c starto startn startl t o n p l = word_on w c (kind (input lm (on o n (p ∷ (l ++ regexps w))))) o n p l _ _ (twin_then w _ _ _ _ (told.expr c (right_level (kind (input lm (on o n (p ∷ (l ++ regexps w)))))) o p.spot.hi l) (λ ev eo en el. twin_ok w _ _ eo en el (ap (λ (z : ℕ). bin_expr (span z en) (kind (input lm (on o n (p ∷ (l ++ regexps w))))) t ev) (lo_same w starto startn startl))))
 
-  pub step_by_twin : (c : Code) (starto : List ℕ) (startn : ℕ) (startl : List PlacedToken) (t : Tree) (o : List ℕ) (n : ℕ) (p : PlacedToken) (l : List PlacedToken) → Twins w (step_by lm inner c (on starto startn ((startl ++ regexps w))) t (on o n (p ∷ (l ++ regexps w)))) (step_by lm inner c (on starto startn ((startl ++ slashes w))) t (on o n (p ∷ (l ++ slashes w))))
+  pub step_by_twin : (c : Code) (starto : List ℕ) (startn : ℕ) (startl : List PlacedToken) (t : Tree) (o : List ℕ) (n : ℕ) (p : PlacedToken) (l : List PlacedToken) → Twins w (step_by lm inner c (lo_of startn (startl ++ regexps w)) t (on o n (p ∷ (l ++ regexps w)))) (step_by lm inner c (lo_of startn (startl ++ slashes w)) t (on o n (p ∷ (l ++ slashes w))))
   unfolding step_by
   step_by_twin c starto startn startl t o n p [] = twin_if w (at lm comma_kind (on o n (p ∷ regexps w))) (at lm comma_kind (on o n (p ∷ slashes w))) refl _ _ _ _ (λ yes. twin_then w _ _ _ _ (told.expr c assignment_level o p.spot.hi []) (λ ev eo en el. twin_ok w _ _ eo en el (ap (λ (z : ℕ). extended t ev (span z en)) (lo_same w starto startn startl)))) (λ no. twin_if w (is_assign_op (kind (input lm (on o n (p ∷ regexps w))))) (is_assign_op (kind (input lm (on o n (p ∷ slashes w))))) refl _ _ _ _ (λ yes. assign_by_twin c starto startn startl t o n p []) (λ no. twin_if w (at lm question_mark_kind (on o n (p ∷ regexps w)) && (kind2 (input lm (on o n (p ∷ regexps w))) == dot_kind)) (at lm question_mark_kind (on o n (p ∷ slashes w)) && (kind2 (input lm (on o n (p ∷ slashes w))) == dot_kind)) (parted w (λ z. at lm question_mark_kind (on o n (p ∷ z)) && (kind2 (input lm (on o n (p ∷ z))) == dot_kind)) refl refl) _ _ _ _ (λ yes. absurd (not_and_false _ yes)) (λ no. twin_if w (at lm question_mark_kind (on o n (p ∷ regexps w))) (at lm question_mark_kind (on o n (p ∷ slashes w))) refl _ _ _ _ (λ yes. twin_if w (nat_le coalesce_level (level t)) (nat_le coalesce_level (level t)) refl _ _ _ _ (λ yes. cond_by_twin c starto startn startl t o n p []) (λ no. never w _ _)) (λ no. twin_if w (operates c (kind (input lm (on o n (p ∷ regexps w))))) (operates c (kind (input lm (on o n (p ∷ slashes w))))) refl _ _ _ _ (λ yes. twin_if w (fits_left (kind (input lm (on o n (p ∷ regexps w)))) t) (fits_left (kind (input lm (on o n (p ∷ slashes w)))) t) refl _ _ _ _ (λ yes. binary_by_twin c starto startn startl t o n p []) (λ no. never w _ _)) (λ no. twin_if w (between plus_plus_kind minus_minus_kind (kind (input lm (on o n (p ∷ regexps w))))) (between plus_plus_kind minus_minus_kind (kind (input lm (on o n (p ∷ slashes w))))) refl _ _ _ _ (λ yes. twin_if w (nat_le new_level (level t) && not (brk (input lm (on o n (p ∷ regexps w))))) (nat_le new_level (level t) && not (brk (input lm (on o n (p ∷ slashes w))))) refl _ _ _ _ (λ yes. twin_ok w _ _ o p.spot.hi [] (ap (λ (z : ℕ). update_expr (span z p.spot.hi) (kind (input lm (on o n (p ∷ regexps w)))) false t) (lo_same w starto startn startl))) (λ no. never w _ _)) (λ no. twin_if w (not (nat_le call_level (level t))) (not (nat_le call_level (level t))) refl _ _ _ _ (λ yes. never w _ _) (λ no. twin_if w (at lm left_paren_kind (on o n (p ∷ regexps w))) (at lm left_paren_kind (on o n (p ∷ slashes w))) refl _ _ _ _ (λ yes. call_by_twin c starto startn startl t o n p []) (λ no. twin_if w (at lm left_bracket_kind (on o n (p ∷ regexps w))) (at lm left_bracket_kind (on o n (p ∷ slashes w))) refl _ _ _ _ (λ yes. index_by_twin c starto startn startl t o n p []) (λ no. twin_if w (at lm dot_kind (on o n (p ∷ regexps w))) (at lm dot_kind (on o n (p ∷ slashes w))) refl _ _ _ _ (λ yes. member_by_twin c starto startn startl t o n p []) (λ no. twin_if w (at lm back_quote_kind (on o n (p ∷ regexps w)) && not (is_chain t)) (at lm back_quote_kind (on o n (p ∷ slashes w)) && not (is_chain t)) refl _ _ _ _ (λ yes. twin_then w _ _ _ _ (template_by_twin c true o n p []) (λ qv qo qn ql. twin_ok w _ _ qo qn ql (ap (λ (z : ℕ). tagged_tpl (span z qn) t qv) (lo_same w starto startn startl)))) (λ no. never w _ _)))))))))))
   step_by_twin c starto startn startl t o n p (p2 ∷ l) = twin_if w (at lm comma_kind (on o n (p ∷ p2 ∷ (l ++ regexps w)))) (at lm comma_kind (on o n (p ∷ p2 ∷ (l ++ slashes w)))) refl _ _ _ _ (λ yes. twin_then w _ _ _ _ (told.expr c assignment_level o p.spot.hi (p2 ∷ l)) (λ ev eo en el. twin_ok w _ _ eo en el (ap (λ (z : ℕ). extended t ev (span z en)) (lo_same w starto startn startl)))) (λ no. twin_if w (is_assign_op (kind (input lm (on o n (p ∷ p2 ∷ (l ++ regexps w)))))) (is_assign_op (kind (input lm (on o n (p ∷ p2 ∷ (l ++ slashes w)))))) refl _ _ _ _ (λ yes. assign_by_twin c starto startn startl t o n p (p2 ∷ l)) (λ no. twin_if w (at lm question_mark_kind (on o n (p ∷ p2 ∷ (l ++ regexps w))) && (kind2 (input lm (on o n (p ∷ p2 ∷ (l ++ regexps w)))) == dot_kind)) (at lm question_mark_kind (on o n (p ∷ p2 ∷ (l ++ slashes w))) && (kind2 (input lm (on o n (p ∷ p2 ∷ (l ++ slashes w)))) == dot_kind)) refl _ _ _ _ (λ yes. twin_if w (nat_le call_level (level t)) (nat_le call_level (level t)) refl _ _ _ _ (λ yes. chain_by_twin c starto startn startl t o p2.spot.hi l) (λ no. never w _ _)) (λ no. twin_if w (at lm question_mark_kind (on o n (p ∷ p2 ∷ (l ++ regexps w)))) (at lm question_mark_kind (on o n (p ∷ p2 ∷ (l ++ slashes w)))) refl _ _ _ _ (λ yes. twin_if w (nat_le coalesce_level (level t)) (nat_le coalesce_level (level t)) refl _ _ _ _ (λ yes. cond_by_twin c starto startn startl t o n p (p2 ∷ l)) (λ no. never w _ _)) (λ no. twin_if w (operates c (kind (input lm (on o n (p ∷ p2 ∷ (l ++ regexps w)))))) (operates c (kind (input lm (on o n (p ∷ p2 ∷ (l ++ slashes w)))))) refl _ _ _ _ (λ yes. twin_if w (fits_left (kind (input lm (on o n (p ∷ p2 ∷ (l ++ regexps w))))) t) (fits_left (kind (input lm (on o n (p ∷ p2 ∷ (l ++ slashes w))))) t) refl _ _ _ _ (λ yes. binary_by_twin c starto startn startl t o n p (p2 ∷ l)) (λ no. never w _ _)) (λ no. twin_if w (between plus_plus_kind minus_minus_kind (kind (input lm (on o n (p ∷ p2 ∷ (l ++ regexps w)))))) (between plus_plus_kind minus_minus_kind (kind (input lm (on o n (p ∷ p2 ∷ (l ++ slashes w)))))) refl _ _ _ _ (λ yes. twin_if w (nat_le new_level (level t) && not (brk (input lm (on o n (p ∷ p2 ∷ (l ++ regexps w)))))) (nat_le new_level (level t) && not (brk (input lm (on o n (p ∷ p2 ∷ (l ++ slashes w)))))) refl _ _ _ _ (λ yes. twin_ok w _ _ o p.spot.hi (p2 ∷ l) (ap (λ (z : ℕ). update_expr (span z p.spot.hi) (kind (input lm (on o n (p ∷ p2 ∷ (l ++ regexps w))))) false t) (lo_same w starto startn startl))) (λ no. never w _ _)) (λ no. twin_if w (not (nat_le call_level (level t))) (not (nat_le call_level (level t))) refl _ _ _ _ (λ yes. never w _ _) (λ no. twin_if w (at lm left_paren_kind (on o n (p ∷ p2 ∷ (l ++ regexps w)))) (at lm left_paren_kind (on o n (p ∷ p2 ∷ (l ++ slashes w)))) refl _ _ _ _ (λ yes. call_by_twin c starto startn startl t o n p (p2 ∷ l)) (λ no. twin_if w (at lm left_bracket_kind (on o n (p ∷ p2 ∷ (l ++ regexps w)))) (at lm left_bracket_kind (on o n (p ∷ p2 ∷ (l ++ slashes w)))) refl _ _ _ _ (λ yes. index_by_twin c starto startn startl t o n p (p2 ∷ l)) (λ no. twin_if w (at lm dot_kind (on o n (p ∷ p2 ∷ (l ++ regexps w)))) (at lm dot_kind (on o n (p ∷ p2 ∷ (l ++ slashes w)))) refl _ _ _ _ (λ yes. member_by_twin c starto startn startl t o n p (p2 ∷ l)) (λ no. twin_if w (at lm back_quote_kind (on o n (p ∷ p2 ∷ (l ++ regexps w))) && not (is_chain t)) (at lm back_quote_kind (on o n (p ∷ p2 ∷ (l ++ slashes w))) && not (is_chain t)) refl _ _ _ _ (λ yes. twin_then w _ _ _ _ (template_by_twin c true o n p (p2 ∷ l)) (λ qv qo qn ql. twin_ok w _ _ qo qn ql (ap (λ (z : ℕ). tagged_tpl (span z qn) t qv) (lo_same w starto startn startl)))) (λ no. never w _ _)))))))))))
 
   -- Where they part, nothing goes on with a regular expression.
-  pub step_nil : {A : Type 0} (c : Code) (start : State Input) (t : Tree) (o : List ℕ) (n : ℕ) (f : Tree × State Input → Result (A × State Input) Fault) (y : Result (A × State Input) Fault) → Twins w (step_by lm inner c start t (on o n (regexps w)) >>= f) y
+  pub step_nil : {A : Type 0} (c : Code) (start : State Input) (t : Tree) (o : List ℕ) (n : ℕ) (f : Tree × State Input → Result (A × State Input) Fault) (y : Result (A × State Input) Fault) → Twins w (step_by lm inner c (lo (input lm start)) t (on o n (regexps w)) >>= f) y
   unfolding step_by
   step_nil c start t o n f y = by_level (nat_le call_level (level t))
     where
@@ -346,20 +346,20 @@ module _ (w : Parting) (inner : Inner Input) (told : Told w inner) where
   by_sort c e o n true = refl
   by_sort c e o n false = refl
 
-  pub loop_step_twin : (c : Code) (k : ℕ) (starto : List ℕ) (startn : ℕ) (startl : List PlacedToken) (t : Tree) (o : List ℕ) (n : ℕ) (l : List PlacedToken) → Twins w (loop_step lm inner c k (on starto startn (startl ++ regexps w)) t (on o n (l ++ regexps w))) (loop_step lm inner c k (on starto startn (startl ++ slashes w)) t (on o n (l ++ slashes w)))
+  pub loop_step_twin : (c : Code) (k : ℕ) (starto : List ℕ) (startn : ℕ) (startl : List PlacedToken) (t : Tree) (o : List ℕ) (n : ℕ) (l : List PlacedToken) → Twins w (loop_step lm inner c k (lo_of startn (startl ++ regexps w)) t (on o n (l ++ regexps w))) (loop_step lm inner c k (lo_of startn (startl ++ slashes w)) t (on o n (l ++ slashes w)))
   unfolding loop_step
   loop_step_twin c k starto startn startl t o n [] = stops t (goes_at (nat_le closed_end (ends t)) false) (goes_expr c (ends t) (input lm (on o n (slashes w)))) k o n _ _
       (subst (λ (j : ℕ). j ≤ goes_at (nat_le closed_end (ends t)) false) (sym (by_sort c (ends t) o n w.assigns)) (lower (nat_le closed_end (ends t)) w.assigns)) (λ v. step_nil c (on starto startn (startl ++ regexps w)) t o n _ v)
   loop_step_twin c k starto startn startl t o n (p ∷ l) = twin_if w (nat_lt (goes_expr c (ends t) (input lm (on o n (p ∷ (l ++ regexps w))))) k) (nat_lt (goes_expr c (ends t) (input lm (on o n (p ∷ (l ++ slashes w))))) k) (same w (λ z. nat_lt (goes_expr c (ends t) (input lm (on o n (p ∷ z)))) k) refl refl (λ p. refl) (λ p. refl) (λ p q. refl) (λ p q. refl) (λ p q r l m n. refl) l) _ _ _ _
       (λ yes. twin_ok w _ _ o n (p ∷ l) refl) (λ yes. twin_then w _ _ _ _ (step_by_twin c starto startn startl t o n p l) (λ v xo xn xl. twin_ok w _ _ xo xn xl refl))
 
-  pub loop_by_twin : (c : Code) (l : ℕ) (starto : List ℕ) (startn : ℕ) (startl : List PlacedToken) (t : Tree) (o : List ℕ) (n : ℕ) (l1 : List PlacedToken) → Twins w (loop_by lm inner c l (on starto startn ((startl ++ regexps w))) t (on o n ((l1 ++ regexps w)))) (loop_by lm inner c l (on starto startn ((startl ++ slashes w))) t (on o n ((l1 ++ slashes w))))
+  pub loop_by_twin : (c : Code) (l : ℕ) (starto : List ℕ) (startn : ℕ) (startl : List PlacedToken) (t : Tree) (o : List ℕ) (n : ℕ) (l1 : List PlacedToken) → Twins w (loop_by lm inner c l (lo_of startn (startl ++ regexps w)) t (on o n ((l1 ++ regexps w)))) (loop_by lm inner c l (lo_of startn (startl ++ slashes w)) t (on o n ((l1 ++ slashes w))))
   unfolding loop_by
   loop_by_twin c l starto startn startl t o n l1 = twin_if w (nat_le l (level t)) (nat_le l (level t)) refl _ _ _ _ (λ yes. iterate_twin w _ _ (λ x xo xn xl. loop_step_twin c l starto startn startl x xo xn xl) t o n l1) (λ no. twin_if w ((level t == new_level) && (l == member_level)) ((level t == new_level) && (l == member_level)) refl _ _ _ _ (λ yes. twin_ok w _ _ o n l1 refl) (λ no. never w _ _))
 
   pub private_in_twin : (c : Code) (l : ℕ) (o : List ℕ) (n : ℕ) (l1 : List PlacedToken) → Twins w (private_in lm inner c l (on o n ((l1 ++ regexps w)))) (private_in lm inner c l (on o n ((l1 ++ slashes w))))
   unfolding private_in
-  private_in_twin c l o n l1 = twin_then w _ _ _ _ (private_by_twin o n l1) (λ pv po pn pl. cut w (λ z. Twins w (if at lm in_kind (on po pn ((z ++ regexps w))) && (has_in c && nat_le l (binary_level in_kind)) then (binary_by lm inner c (on o n ((l1 ++ regexps w))) pv (on po pn ((z ++ regexps w))) >>= λ t. loop_by lm inner c l (on o n ((l1 ++ regexps w))) t.0 t.1) else unexpected lm (on po pn ((z ++ regexps w)))) (if at lm in_kind (on po pn ((z ++ slashes w))) && (has_in c && nat_le l (binary_level in_kind)) then (binary_by lm inner c (on o n ((l1 ++ slashes w))) pv (on po pn ((z ++ slashes w))) >>= λ t. loop_by lm inner c l (on o n ((l1 ++ slashes w))) t.0 t.1) else unexpected lm (on po pn ((z ++ slashes w))))) pl (never w _ _) (λ pp pq. twin_if w (at lm in_kind (on po pn (pp ∷ (pq ++ regexps w))) && (has_in c && nat_le l (binary_level in_kind))) (at lm in_kind (on po pn (pp ∷ (pq ++ slashes w))) && (has_in c && nat_le l (binary_level in_kind))) refl _ _ _ _ (λ yes. twin_then w _ _ _ _ (binary_by_twin c o n l1 pv po pn pp pq) (λ tv to tn tl. loop_by_twin c l o n l1 tv to tn tl)) (λ no. never w _ _)))
+  private_in_twin c l o n l1 = twin_then w _ _ _ _ (private_by_twin o n l1) (λ pv po pn pl. cut w (λ z. Twins w (if at lm in_kind (on po pn ((z ++ regexps w))) && (has_in c && nat_le l (binary_level in_kind)) then (binary_by lm inner c (lo_of n (l1 ++ regexps w)) pv (on po pn ((z ++ regexps w))) >>= λ t. loop_by lm inner c l (lo_of n (l1 ++ regexps w)) t.0 t.1) else unexpected lm (on po pn ((z ++ regexps w)))) (if at lm in_kind (on po pn ((z ++ slashes w))) && (has_in c && nat_le l (binary_level in_kind)) then (binary_by lm inner c (lo_of n (l1 ++ slashes w)) pv (on po pn ((z ++ slashes w))) >>= λ t. loop_by lm inner c l (lo_of n (l1 ++ slashes w)) t.0 t.1) else unexpected lm (on po pn ((z ++ slashes w))))) pl (never w _ _) (λ pp pq. twin_if w (at lm in_kind (on po pn (pp ∷ (pq ++ regexps w))) && (has_in c && nat_le l (binary_level in_kind))) (at lm in_kind (on po pn (pp ∷ (pq ++ slashes w))) && (has_in c && nat_le l (binary_level in_kind))) refl _ _ _ _ (λ yes. twin_then w _ _ _ _ (binary_by_twin c o n l1 pv po pn pp pq) (λ tv to tn tl. loop_by_twin c l o n l1 tv to tn tl)) (λ no. never w _ _)))
 
   pub expr_from_twin : (c : Code) (l : ℕ) (o : List ℕ) (n : ℕ) (l1 : List PlacedToken) → Twins w (expr_from lm inner c l (on o n ((l1 ++ regexps w)))) (expr_from lm inner c l (on o n ((l1 ++ slashes w))))
   unfolding expr_from

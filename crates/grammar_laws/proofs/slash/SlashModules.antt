@@ -3,7 +3,7 @@ use Rattle.std.proofs.Common.{ℕ, Bool, true, false, not, ◌&&◌, ◌||◌, �
 use Rattle.base_proofs.proofs.Bools.{not_and_false}
 use Rattle.base_token.specs.Kinds.{left_brace_kind, right_brace_kind, comma_kind, mul_kind, str_kind, shebang_kind, default_kind, function_kind, with_kind, class_kind, export_kind, import_kind, as_kind, assert_kind, from_kind}
 use Rattle.tree_spec.specs.Tree.{Tree, none, more, pack, import_decl, named_export, export_default_decl, export_default_expr, export_all, import_default_specifier, export_namespace_specifier, absent}
-use Rattle.grammar_spec.specs.Tokens.Input.{PlacedToken, Input, span, Code, kind, brk, is_word, in_list}
+use Rattle.grammar_spec.specs.Tokens.Input.{PlacedToken, Input, span, Code, kind, brk, is_word, in_list, lo_of}
 use Rattle.grammar_spec.specs.Tokens.Operators.{assignment_level, exports_end, source_end, plain_end}
 use Rattle.grammar_spec.specs.Tokens.Shape.{ends, is_use_strict, is_attributes, is_exportable}
 use Rattle.grammar_spec.specs.Reader.Source.{unexpected, ◌>>=◌, input, past, spanned, at, ended, eat, eat_word, name, end_of, go_on, finished, Inner}
@@ -61,35 +61,35 @@ module _ (w : Parting) (inner : Inner Input) (told : Told w inner) where
   star_import_twin c o n [] = eat_none w mul_kind (refl, refl, refl) o n _ _
   star_import_twin c o n (p ∷ l1) = eat_on w mul_kind o n p l1 _ _ (word_at w c as_kind (refl, refl, refl) o p.spot.hi l1 _ _ (λ an al. twin_then w _ _ _ _ (local_by_twin c o an al) (λ lv lo ln ll. twin_ok w _ _ lo ln ll refl)))
 
-  pub import_end_twin : (c : Code) (starto : List ℕ) (startn : ℕ) (startl : List PlacedToken) (xs : List Tree) (o : List ℕ) (n : ℕ) (l : List PlacedToken) → Twins w (import_end lm inner c (on starto startn ((startl ++ regexps w))) xs (on o n ((l ++ regexps w)))) (import_end lm inner c (on starto startn ((startl ++ slashes w))) xs (on o n ((l ++ slashes w))))
+  pub import_end_twin : (c : Code) (starto : List ℕ) (startn : ℕ) (startl : List PlacedToken) (xs : List Tree) (o : List ℕ) (n : ℕ) (l : List PlacedToken) → Twins w (import_end lm inner c (lo_of startn (startl ++ regexps w)) xs (on o n ((l ++ regexps w)))) (import_end lm inner c (lo_of startn (startl ++ slashes w)) xs (on o n ((l ++ slashes w))))
   unfolding import_end
   import_end_twin c starto startn startl xs o n l = word_at w c from_kind (refl, refl, refl) o n l _ _ (λ rn rl. twin_then w _ _ _ _ (source_by_twin c o rn rl) (λ fv fo fn fl. twin_ok w _ _ fo fn fl (ap (λ (z : ℕ). import_decl (span z fn) (pack xs) fv.src fv.with_) (lo_same w starto startn startl))))
 
-  pub import_rest_twin : (c : Code) (starto : List ℕ) (startn : ℕ) (startl : List PlacedToken) (xs : List Tree) (o : List ℕ) (n : ℕ) (l : List PlacedToken) → Twins w (import_rest lm inner c (on starto startn ((startl ++ regexps w))) xs (on o n ((l ++ regexps w)))) (import_rest lm inner c (on starto startn ((startl ++ slashes w))) xs (on o n ((l ++ slashes w))))
+  pub import_rest_twin : (c : Code) (starto : List ℕ) (startn : ℕ) (startl : List PlacedToken) (xs : List Tree) (o : List ℕ) (n : ℕ) (l : List PlacedToken) → Twins w (import_rest lm inner c (lo_of startn (startl ++ regexps w)) xs (on o n ((l ++ regexps w)))) (import_rest lm inner c (lo_of startn (startl ++ slashes w)) xs (on o n ((l ++ slashes w))))
   unfolding import_rest
   import_rest_twin c starto startn startl xs o n l = twin_if w (at lm mul_kind (on o n ((l ++ regexps w)))) (at lm mul_kind (on o n ((l ++ slashes w)))) (same w (λ z. at lm mul_kind (on o n z)) refl refl (λ p. refl) (λ p. refl) (λ p q. refl) (λ p q. refl) (λ p q r l m n. refl) l) _ _ _ _ (λ yes. twin_then w _ _ _ _ (star_import_twin c o n l) (λ xv xo xn xl. import_end_twin c starto startn startl (xs ++ xv ∷ []) xo xn xl)) (λ no. eat_at w left_brace_kind (refl, refl, refl) o n l _ _ (λ rn rl. twin_then w _ _ _ _ (specifiers_by_twin true c o rn rl) (λ ysv yso ysn ysl. import_end_twin c starto startn startl (xs ++ ysv) yso ysn ysl)))
 
-  pub import_default_twin : (c : Code) (starto : List ℕ) (startn : ℕ) (startl : List PlacedToken) (o : List ℕ) (n : ℕ) (l1 : List PlacedToken) → Twins w (import_default lm inner c (on starto startn ((startl ++ regexps w))) (on o n ((l1 ++ regexps w)))) (import_default lm inner c (on starto startn ((startl ++ slashes w))) (on o n ((l1 ++ slashes w))))
+  pub import_default_twin : (c : Code) (starto : List ℕ) (startn : ℕ) (startl : List PlacedToken) (o : List ℕ) (n : ℕ) (l1 : List PlacedToken) → Twins w (import_default lm inner c (lo_of startn (startl ++ regexps w)) (on o n ((l1 ++ regexps w)))) (import_default lm inner c (lo_of startn (startl ++ slashes w)) (on o n ((l1 ++ slashes w))))
   unfolding import_default local_by name
   import_default_twin c starto startn startl o n [] = never w _ _
-  import_default_twin c starto startn startl o n (p ∷ l1) = twin_then w _ _ _ _ (local_by_twin c o n (p ∷ l1)) (λ lv lo ln ll. cut w (λ z. Twins w (if at lm comma_kind (on lo ln ((z ++ regexps w))) then import_rest lm inner c (on starto startn ((startl ++ regexps w))) (import_default_specifier (first lm inner (on o n (p ∷ (l1 ++ regexps w)))) lv ∷ []) (past lm (on lo ln ((z ++ regexps w)))) else import_end lm inner c (on starto startn ((startl ++ regexps w))) (import_default_specifier (first lm inner (on o n (p ∷ (l1 ++ regexps w)))) lv ∷ []) (on lo ln ((z ++ regexps w)))) (if at lm comma_kind (on lo ln ((z ++ slashes w))) then import_rest lm inner c (on starto startn ((startl ++ slashes w))) (import_default_specifier (first lm inner (on o n (p ∷ (l1 ++ slashes w)))) lv ∷ []) (past lm (on lo ln ((z ++ slashes w)))) else import_end lm inner c (on starto startn ((startl ++ slashes w))) (import_default_specifier (first lm inner (on o n (p ∷ (l1 ++ slashes w)))) lv ∷ []) (on lo ln ((z ++ slashes w))))) ll (twin_no w (at lm comma_kind (on lo ln (slashes w))) (parted w (λ z. at lm comma_kind (on lo ln z)) refl refl) _ _ _ (import_end_twin c starto startn startl (import_default_specifier (first lm inner (on o n (p ∷ (l1 ++ regexps w)))) lv ∷ []) lo ln [])) (λ lp lq. twin_if w (at lm comma_kind (on lo ln (lp ∷ (lq ++ regexps w)))) (at lm comma_kind (on lo ln (lp ∷ (lq ++ slashes w)))) refl _ _ _ _ (λ yes. import_rest_twin c starto startn startl (import_default_specifier (first lm inner (on o n (p ∷ (l1 ++ regexps w)))) lv ∷ []) lo lp.spot.hi lq) (λ no. import_end_twin c starto startn startl (import_default_specifier (first lm inner (on o n (p ∷ (l1 ++ regexps w)))) lv ∷ []) lo ln (lp ∷ lq))))
+  import_default_twin c starto startn startl o n (p ∷ l1) = twin_then w _ _ _ _ (local_by_twin c o n (p ∷ l1)) (λ lv lo ln ll. cut w (λ z. Twins w (if at lm comma_kind (on lo ln ((z ++ regexps w))) then import_rest lm inner c (lo_of startn (startl ++ regexps w)) (import_default_specifier (first lm inner (on o n (p ∷ (l1 ++ regexps w)))) lv ∷ []) (past lm (on lo ln ((z ++ regexps w)))) else import_end lm inner c (lo_of startn (startl ++ regexps w)) (import_default_specifier (first lm inner (on o n (p ∷ (l1 ++ regexps w)))) lv ∷ []) (on lo ln ((z ++ regexps w)))) (if at lm comma_kind (on lo ln ((z ++ slashes w))) then import_rest lm inner c (lo_of startn (startl ++ slashes w)) (import_default_specifier (first lm inner (on o n (p ∷ (l1 ++ slashes w)))) lv ∷ []) (past lm (on lo ln ((z ++ slashes w)))) else import_end lm inner c (lo_of startn (startl ++ slashes w)) (import_default_specifier (first lm inner (on o n (p ∷ (l1 ++ slashes w)))) lv ∷ []) (on lo ln ((z ++ slashes w))))) ll (twin_no w (at lm comma_kind (on lo ln (slashes w))) (parted w (λ z. at lm comma_kind (on lo ln z)) refl refl) _ _ _ (import_end_twin c starto startn startl (import_default_specifier (first lm inner (on o n (p ∷ (l1 ++ regexps w)))) lv ∷ []) lo ln [])) (λ lp lq. twin_if w (at lm comma_kind (on lo ln (lp ∷ (lq ++ regexps w)))) (at lm comma_kind (on lo ln (lp ∷ (lq ++ slashes w)))) refl _ _ _ _ (λ yes. import_rest_twin c starto startn startl (import_default_specifier (first lm inner (on o n (p ∷ (l1 ++ regexps w)))) lv ∷ []) lo lp.spot.hi lq) (λ no. import_end_twin c starto startn startl (import_default_specifier (first lm inner (on o n (p ∷ (l1 ++ regexps w)))) lv ∷ []) lo ln (lp ∷ lq))))
 
   pub import_decl_by_twin : (c : Code) (o : List ℕ) (n : ℕ) (l : List PlacedToken) → Twins w (import_decl_by lm inner c (on o n ((l ++ regexps w)))) (import_decl_by lm inner c (on o n ((l ++ slashes w))))
   unfolding import_decl_by
   import_decl_by_twin c o n [] = word_none w c import_kind (refl, refl, refl) o n _ _
-  import_decl_by_twin c o n (p ∷ l) = word_on w c import_kind o n p l _ _ (cut w (λ z. Twins w (if at lm str_kind (on o p.spot.hi ((z ++ regexps w))) then (source_by lm inner c (on o p.spot.hi ((z ++ regexps w))) >>= λ f. Ok (import_decl (spanned lm (on o n (p ∷ (l ++ regexps w))) f.1) none f.0.src f.0.with_, f.1)) else (if is_word (kind (input lm (on o p.spot.hi ((z ++ regexps w))))) then import_default lm inner c (on o n (p ∷ (l ++ regexps w))) (on o p.spot.hi ((z ++ regexps w))) else import_rest lm inner c (on o n (p ∷ (l ++ regexps w))) [] (on o p.spot.hi ((z ++ regexps w))))) (if at lm str_kind (on o p.spot.hi ((z ++ slashes w))) then (source_by lm inner c (on o p.spot.hi ((z ++ slashes w))) >>= λ f. Ok (import_decl (spanned lm (on o n (p ∷ (l ++ slashes w))) f.1) none f.0.src f.0.with_, f.1)) else (if is_word (kind (input lm (on o p.spot.hi ((z ++ slashes w))))) then import_default lm inner c (on o n (p ∷ (l ++ slashes w))) (on o p.spot.hi ((z ++ slashes w))) else import_rest lm inner c (on o n (p ∷ (l ++ slashes w))) [] (on o p.spot.hi ((z ++ slashes w)))))) l (twin_no w (at lm str_kind (on o p.spot.hi (slashes w))) (parted w (λ z. at lm str_kind (on o p.spot.hi z)) refl refl) _ _ _ (twin_no w (is_word (kind (input lm (on o p.spot.hi (slashes w))))) (parted w (λ z. is_word (kind (input lm (on o p.spot.hi z)))) refl refl) _ _ _ (import_rest_twin c o n (p ∷ l) [] o p.spot.hi []))) (λ rp rq. twin_if w (at lm str_kind (on o p.spot.hi (rp ∷ (rq ++ regexps w)))) (at lm str_kind (on o p.spot.hi (rp ∷ (rq ++ slashes w)))) refl _ _ _ _ (λ yes. twin_then w _ _ _ _ (source_by_twin c o p.spot.hi (rp ∷ rq)) (λ fv fo fn fl. twin_ok w _ _ fo fn fl refl)) (λ no. twin_if w (is_word (kind (input lm (on o p.spot.hi (rp ∷ (rq ++ regexps w)))))) (is_word (kind (input lm (on o p.spot.hi (rp ∷ (rq ++ slashes w)))))) refl _ _ _ _ (λ yes. import_default_twin c o n (p ∷ l) o p.spot.hi (rp ∷ rq)) (λ no. import_rest_twin c o n (p ∷ l) [] o p.spot.hi (rp ∷ rq)))))
+  import_decl_by_twin c o n (p ∷ l) = word_on w c import_kind o n p l _ _ (cut w (λ z. Twins w (if at lm str_kind (on o p.spot.hi ((z ++ regexps w))) then (source_by lm inner c (on o p.spot.hi ((z ++ regexps w))) >>= λ f. Ok (import_decl (spanned lm (lo_of n (p ∷ (l ++ regexps w))) f.1) none f.0.src f.0.with_, f.1)) else (if is_word (kind (input lm (on o p.spot.hi ((z ++ regexps w))))) then import_default lm inner c (lo_of n (p ∷ (l ++ regexps w))) (on o p.spot.hi ((z ++ regexps w))) else import_rest lm inner c (lo_of n (p ∷ (l ++ regexps w))) [] (on o p.spot.hi ((z ++ regexps w))))) (if at lm str_kind (on o p.spot.hi ((z ++ slashes w))) then (source_by lm inner c (on o p.spot.hi ((z ++ slashes w))) >>= λ f. Ok (import_decl (spanned lm (lo_of n (p ∷ (l ++ slashes w))) f.1) none f.0.src f.0.with_, f.1)) else (if is_word (kind (input lm (on o p.spot.hi ((z ++ slashes w))))) then import_default lm inner c (lo_of n (p ∷ (l ++ slashes w))) (on o p.spot.hi ((z ++ slashes w))) else import_rest lm inner c (lo_of n (p ∷ (l ++ slashes w))) [] (on o p.spot.hi ((z ++ slashes w)))))) l (twin_no w (at lm str_kind (on o p.spot.hi (slashes w))) (parted w (λ z. at lm str_kind (on o p.spot.hi z)) refl refl) _ _ _ (twin_no w (is_word (kind (input lm (on o p.spot.hi (slashes w))))) (parted w (λ z. is_word (kind (input lm (on o p.spot.hi z)))) refl refl) _ _ _ (import_rest_twin c o n (p ∷ l) [] o p.spot.hi []))) (λ rp rq. twin_if w (at lm str_kind (on o p.spot.hi (rp ∷ (rq ++ regexps w)))) (at lm str_kind (on o p.spot.hi (rp ∷ (rq ++ slashes w)))) refl _ _ _ _ (λ yes. twin_then w _ _ _ _ (source_by_twin c o p.spot.hi (rp ∷ rq)) (λ fv fo fn fl. twin_ok w _ _ fo fn fl refl)) (λ no. twin_if w (is_word (kind (input lm (on o p.spot.hi (rp ∷ (rq ++ regexps w)))))) (is_word (kind (input lm (on o p.spot.hi (rp ∷ (rq ++ slashes w)))))) refl _ _ _ _ (λ yes. import_default_twin c o n (p ∷ l) o p.spot.hi (rp ∷ rq)) (λ no. import_rest_twin c o n (p ∷ l) [] o p.spot.hi (rp ∷ rq)))))
 
-  pub export_default_twin : (c : Code) (starto : List ℕ) (startn : ℕ) (startl : List PlacedToken) (o : List ℕ) (n : ℕ) (l : List PlacedToken) → Twins w (export_default lm inner c (on starto startn ((startl ++ regexps w))) (on o n ((l ++ regexps w)))) (export_default lm inner c (on starto startn ((startl ++ slashes w))) (on o n ((l ++ slashes w))))
+  pub export_default_twin : (c : Code) (starto : List ℕ) (startn : ℕ) (startl : List PlacedToken) (o : List ℕ) (n : ℕ) (l : List PlacedToken) → Twins w (export_default lm inner c (lo_of startn (startl ++ regexps w)) (on o n ((l ++ regexps w)))) (export_default lm inner c (lo_of startn (startl ++ slashes w)) (on o n ((l ++ slashes w))))
   unfolding export_default
   export_default_twin c starto startn startl o n [] = twin_no w (at lm function_kind (on o n (slashes w))) (parted w (λ z. at lm function_kind (on o n z)) refl refl) _ _ _ (twin_no w (starts_async lm inner (on o n (slashes w))) (parted w (λ z. starts_async lm inner (on o n z)) refl refl) _ _ _ (twin_no w (at lm class_kind (on o n (slashes w))) (parted w (λ z. at lm class_kind (on o n z)) refl refl) _ _ _ (twin_then w _ _ _ _ (told.expr c assignment_level o n []) (λ ev eo en el. end_at w c (ends ev) eo en el _ _ (λ rn rl. twin_ok w _ _ eo rn rl (ap (λ (z : ℕ). export_default_expr (span z rn) ev) (lo_same w starto startn startl)))))))
   export_default_twin c starto startn startl o n (p ∷ l) = twin_if w (at lm function_kind (on o n (p ∷ (l ++ regexps w)))) (at lm function_kind (on o n (p ∷ (l ++ slashes w)))) refl _ _ _ _ (λ yes. twin_then w _ _ _ _ (function_expr_by_twin w inner told c o n p l false o n (p ∷ l)) (λ dv do1 dn dl. twin_ok w _ _ do1 dn dl (ap (λ (z : ℕ). export_default_decl (span z dn) dv) (lo_same w starto startn startl)))) (λ no. twin_if w (starts_async lm inner (on o n (p ∷ (l ++ regexps w)))) (starts_async lm inner (on o n (p ∷ (l ++ slashes w)))) (same w (λ z. starts_async lm inner (on o n (p ∷ z))) refl refl (λ p. refl) (λ p. refl) (λ p q. refl) (λ p q. refl) (λ p q r l m n. refl) l) _ _ _ _ (λ yes. twin_then w _ _ _ _ (function_expr_by_twin w inner told c o n p l true o p.spot.hi l) (λ dv do1 dn dl. twin_ok w _ _ do1 dn dl (ap (λ (z : ℕ). export_default_decl (span z dn) dv) (lo_same w starto startn startl)))) (λ no. twin_if w (at lm class_kind (on o n (p ∷ (l ++ regexps w)))) (at lm class_kind (on o n (p ∷ (l ++ slashes w)))) refl _ _ _ _ (λ yes. twin_then w _ _ _ _ (class_expr_by_twin w inner told c o n (p ∷ l)) (λ dv do1 dn dl. twin_ok w _ _ do1 dn dl (ap (λ (z : ℕ). export_default_decl (span z dn) dv) (lo_same w starto startn startl)))) (λ no. twin_then w _ _ _ _ (told.expr c assignment_level o n (p ∷ l)) (λ ev eo en el. end_at w c (ends ev) eo en el _ _ (λ rn rl. twin_ok w _ _ eo rn rl (ap (λ (z : ℕ). export_default_expr (span z rn) ev) (lo_same w starto startn startl)))))))
 
-  pub export_star_twin : (c : Code) (starto : List ℕ) (startn : ℕ) (startl : List PlacedToken) (o : List ℕ) (n1 : ℕ) (l : List PlacedToken) → Twins w (export_star lm inner c (on starto startn ((startl ++ regexps w))) (on o n1 ((l ++ regexps w)))) (export_star lm inner c (on starto startn ((startl ++ slashes w))) (on o n1 ((l ++ slashes w))))
+  pub export_star_twin : (c : Code) (starto : List ℕ) (startn : ℕ) (startl : List PlacedToken) (o : List ℕ) (n1 : ℕ) (l : List PlacedToken) → Twins w (export_star lm inner c (lo_of startn (startl ++ regexps w)) (on o n1 ((l ++ regexps w)))) (export_star lm inner c (lo_of startn (startl ++ slashes w)) (on o n1 ((l ++ slashes w))))
   unfolding export_star
   export_star_twin c starto startn startl o n1 [] = eat_none w mul_kind (refl, refl, refl) o n1 _ _
-  export_star_twin c starto startn startl o n1 (p ∷ l) = eat_on w mul_kind o n1 p l _ _ (twin_if w (at lm as_kind (on o p.spot.hi ((l ++ regexps w)))) (at lm as_kind (on o p.spot.hi ((l ++ slashes w)))) (same w (λ z. at lm as_kind (on o p.spot.hi z)) refl refl (λ p. refl) (λ p. refl) (λ p q. refl) (λ p q. refl) (λ p q r l m n. refl) l) _ _ _ _ (λ yes. word_at w c as_kind (refl, refl, refl) o p.spot.hi l _ _ (λ an al. twin_then w _ _ _ _ (export_name_by_twin o an al) (λ nv no1 nn nl. word_at w c from_kind (refl, refl, refl) no1 nn nl _ _ (λ fn fl. twin_then w _ _ _ _ (source_by_twin c no1 fn fl) (λ xv xo xn xl. twin_ok w _ _ xo xn xl (ap (λ (z : ℕ). named_export (span z xn) (more (export_namespace_specifier (spanned lm (on o n1 (p ∷ (l ++ regexps w))) (on no1 nn ((nl ++ regexps w)))) nv) none) xv.src xv.with_) (lo_same w starto startn startl))))))) (λ no. word_at w c from_kind (refl, refl, refl) o p.spot.hi l _ _ (λ fn fl. twin_then w _ _ _ _ (source_by_twin c o fn fl) (λ xv xo xn xl. twin_ok w _ _ xo xn xl (ap (λ (z : ℕ). export_all (span z xn) xv.src xv.with_) (lo_same w starto startn startl))))))
+  export_star_twin c starto startn startl o n1 (p ∷ l) = eat_on w mul_kind o n1 p l _ _ (twin_if w (at lm as_kind (on o p.spot.hi ((l ++ regexps w)))) (at lm as_kind (on o p.spot.hi ((l ++ slashes w)))) (same w (λ z. at lm as_kind (on o p.spot.hi z)) refl refl (λ p. refl) (λ p. refl) (λ p q. refl) (λ p q. refl) (λ p q r l m n. refl) l) _ _ _ _ (λ yes. word_at w c as_kind (refl, refl, refl) o p.spot.hi l _ _ (λ an al. twin_then w _ _ _ _ (export_name_by_twin o an al) (λ nv no1 nn nl. word_at w c from_kind (refl, refl, refl) no1 nn nl _ _ (λ fn fl. twin_then w _ _ _ _ (source_by_twin c no1 fn fl) (λ xv xo xn xl. twin_ok w _ _ xo xn xl (ap (λ (z : ℕ). named_export (span z xn) (more (export_namespace_specifier (spanned lm (lo_of n1 (p ∷ (l ++ regexps w))) (on no1 nn ((nl ++ regexps w)))) nv) none) xv.src xv.with_) (lo_same w starto startn startl))))))) (λ no. word_at w c from_kind (refl, refl, refl) o p.spot.hi l _ _ (λ fn fl. twin_then w _ _ _ _ (source_by_twin c o fn fl) (λ xv xo xn xl. twin_ok w _ _ xo xn xl (ap (λ (z : ℕ). export_all (span z xn) xv.src xv.with_) (lo_same w starto startn startl))))))
 
-  pub export_list_twin : (c : Code) (starto : List ℕ) (startn : ℕ) (startl : List PlacedToken) (o : List ℕ) (n : ℕ) (l : List PlacedToken) → Twins w (export_list lm inner c (on starto startn ((startl ++ regexps w))) (on o n ((l ++ regexps w)))) (export_list lm inner c (on starto startn ((startl ++ slashes w))) (on o n ((l ++ slashes w))))
+  pub export_list_twin : (c : Code) (starto : List ℕ) (startn : ℕ) (startl : List PlacedToken) (o : List ℕ) (n : ℕ) (l : List PlacedToken) → Twins w (export_list lm inner c (lo_of startn (startl ++ regexps w)) (on o n ((l ++ regexps w)))) (export_list lm inner c (lo_of startn (startl ++ slashes w)) (on o n ((l ++ slashes w))))
   unfolding export_list
   export_list_twin c starto startn startl o n l = eat_at w left_brace_kind (refl, refl, refl) o n l _ _ (λ rn rl. twin_then w _ _ _ _ (specifiers_by_twin false c o rn rl) (λ xsv xso xsn xsl. twin_if w (at lm from_kind (on xso xsn ((xsl ++ regexps w)))) (at lm from_kind (on xso xsn ((xsl ++ slashes w)))) (same w (λ z. at lm from_kind (on xso xsn z)) refl refl (λ p. refl) (λ p. refl) (λ p q. refl) (λ p q. refl) (λ p q r l m n. refl) xsl) _ _ _ _ (λ yes. word_at w c from_kind (refl, refl, refl) xso xsn xsl _ _ (λ fn fl. twin_then w _ _ _ _ (source_by_twin c xso fn fl) (λ xv xo xn xl. twin_ok w _ _ xo xn xl (ap (λ (z : ℕ). named_export (span z xn) (pack xsv) xv.src xv.with_) (lo_same w starto startn startl))))) (λ no. end_at w c exports_end xso xsn xsl _ _ (λ en el. twin_ok w _ _ xso en el (ap (λ (z : ℕ). named_export (span z en) (pack xsv) absent absent) (lo_same w starto startn startl))))))
 
@@ -110,7 +110,7 @@ module _ (w : Parting) (inner : Inner Input) (told : Told w inner) where
   unfolding program_step
   program_step_twin modules b o n l = twin_if w (ended lm (on o n ((l ++ regexps w)))) (ended lm (on o n ((l ++ slashes w)))) (same w (λ z. ended lm (on o n z)) refl refl (λ p. refl) (λ p. refl) (λ p q. refl) (λ p q. refl) (λ p q r l m n. refl) l) _ _ _ _ (λ yes. twin_ok w _ _ o n l refl) (λ no. program_item_twin modules b o n l)
 
-  pub program_rest_twin : (modules : Bool) (c : Code) (starto : List ℕ) (startn : ℕ) (startl : List PlacedToken) (l : Option (List ℕ)) (o : List ℕ) (n : ℕ) (l1 : List PlacedToken) → Twins w (program_rest lm inner modules c (on starto startn ((startl ++ regexps w))) l (on o n ((l1 ++ regexps w)))) (program_rest lm inner modules c (on starto startn ((startl ++ slashes w))) l (on o n ((l1 ++ slashes w))))
+  pub program_rest_twin : (modules : Bool) (c : Code) (starto : List ℕ) (startn : ℕ) (startl : List PlacedToken) (l : Option (List ℕ)) (o : List ℕ) (n : ℕ) (l1 : List PlacedToken) → Twins w (program_rest lm inner modules c (lo_of startn (startl ++ regexps w)) l (on o n ((l1 ++ regexps w)))) (program_rest lm inner modules c (lo_of startn (startl ++ slashes w)) l (on o n ((l1 ++ slashes w))))
   unfolding program_rest
   program_rest_twin modules c starto startn startl l o n l1 = twin_then w _ _ _ _ (iterate_twin w _ _ (λ x xo xn xl. program_step_twin modules x xo xn xl) (record { items = []; code = c; starts = true }) o n l1) (λ bv bo bn bl. twin_ok w _ _ bo bn bl (ap (λ (z : ℕ). program_tree lm inner modules (span z bn) (pack bv.items) l) (lo_same w starto startn startl)))
 
@@ -119,6 +119,6 @@ module _ (w : Parting) (inner : Inner Input) (told : Told w inner) where
   program_by_twin modules c o n [] = twin_no w (at lm shebang_kind (on o n (slashes w))) (parted w (λ z. at lm shebang_kind (on o n z)) refl refl) _ _ _ (program_rest_twin modules c o n [] None o n [])
   program_by_twin modules c o n (p ∷ l) = twin_if w (p.spot.token.kind == shebang_kind) (p.spot.token.kind == shebang_kind) refl _ _ _ _ (λ yes. by_line (line_of lm inner p.spot.token.content)) (λ yes. program_rest_twin modules c o n (p ∷ l) None o n (p ∷ l))
     where
-      by_line : (t : Option (List ℕ)) → Twins w {A = Tree} (elim t [ None ↦ unexpected lm (on o n (p ∷ (l ++ regexps w))) | Some k ↦ program_rest lm inner modules c (on o n (p ∷ (l ++ regexps w))) (Some k) (on o p.spot.hi (l ++ regexps w)) ]) (elim t [ None ↦ unexpected lm (on o n (p ∷ (l ++ slashes w))) | Some k ↦ program_rest lm inner modules c (on o n (p ∷ (l ++ slashes w))) (Some k) (on o p.spot.hi (l ++ slashes w)) ])
+      by_line : (t : Option (List ℕ)) → Twins w {A = Tree} (elim t [ None ↦ unexpected lm (on o n (p ∷ (l ++ regexps w))) | Some k ↦ program_rest lm inner modules c (lo_of n (p ∷ (l ++ regexps w))) (Some k) (on o p.spot.hi (l ++ regexps w)) ]) (elim t [ None ↦ unexpected lm (on o n (p ∷ (l ++ slashes w))) | Some k ↦ program_rest lm inner modules c (lo_of n (p ∷ (l ++ slashes w))) (Some k) (on o p.spot.hi (l ++ slashes w)) ])
       by_line None = never w _ _
       by_line (Some k) = program_rest_twin modules c o n (p ∷ l) (Some k) o p.spot.hi l

@@ -7,7 +7,7 @@ use Rattle.tree_spec.specs.Tree.{Tree, Trees, none, more, pack, script, es_modul
 use Rattle.grammar_spec.specs.Tokens.Input.{Code, kind, kind2, brk, content, is_word, in_list, turned_strict}
 use Rattle.grammar_spec.specs.Tokens.Operators.{assignment_level, exports_end, source_end, plain_end}
 use Rattle.grammar_spec.specs.Tokens.Shape.{ends, is_use_strict, is_directive, is_attributes, is_exportable}
-use Rattle.grammar_spec.specs.Reader.Source.{placed, unexpected, ◌>>=◌, Stream, State, Read, input, past, operand, retold, bound, spanned, at, ended, eat, eat_word, name, any_word, end_of, Step, go_on, finished, iterate, Inner}
+use Rattle.grammar_spec.specs.Reader.Source.{placed, unexpected, ◌>>=◌, Stream, State, Read, input, past, operand, retold, bound, here, spanned, at, ended, eat, eat_word, name, any_word, end_of, Step, go_on, finished, iterate, Inner}
 use Rattle.grammar_spec.specs.Reader.Expressions.{first, literal_by, object_by, function_expr_by, class_expr_by}
 use Rattle.grammar_spec.specs.Reader.Statements.{Body, starts_async, starts_variables}
 
@@ -40,13 +40,13 @@ module _ {S : Type 0} (m : Stream S) (inner : Inner S) where
   -- in braces: a binding, or a name `as` one
   unfoldable pub named_import : Code → Read S Tree
   named_import c s = export_name_by s >>= λ n.
-      if at m as_kind n.1 then (eat_word m c as_kind n.1 >>= λ a. local_by c a >>= λ l. Ok (import_named_specifier (spanned m s l.1) l.0 n.0, l.1))
-      else (placed (bound m n.1) (local_by c s) >>= λ l. Ok (import_named_specifier (spanned m s l.1) l.0 absent, l.1))
+      if at m as_kind n.1 then (eat_word m c as_kind n.1 >>= λ a. local_by c a >>= λ l. Ok (import_named_specifier (spanned m (here m s) l.1) l.0 n.0, l.1))
+      else (placed (bound m n.1) (local_by c s) >>= λ l. Ok (import_named_specifier (spanned m (here m s) l.1) l.0 absent, l.1))
 
   unfoldable pub named_export_item : Code → Read S Tree
   named_export_item c s = export_name_by s >>= λ n.
-      if at m as_kind n.1 then (eat_word m c as_kind n.1 >>= λ a. export_name_by a >>= λ e. Ok (export_named_specifier (spanned m s e.1) n.0 e.0, e.1))
-      else Ok (export_named_specifier (spanned m s n.1) n.0 absent, n.1)
+      if at m as_kind n.1 then (eat_word m c as_kind n.1 >>= λ a. export_name_by a >>= λ e. Ok (export_named_specifier (spanned m (here m s) e.1) n.0 e.0, e.1))
+      else Ok (export_named_specifier (spanned m (here m s) n.1) n.0 absent, n.1)
 
   unfoldable pub specifier_step : Bool → Code → List Tree → Read S (Step (List Tree))
   specifier_step imports c xs s =
@@ -59,43 +59,43 @@ module _ {S : Type 0} (m : Stream S) (inner : Inner S) where
   specifiers_by imports c s = iterate (bound m) (specifier_step imports c) [] s
 
   unfoldable pub star_import : Code → Read S Tree
-  star_import c s = eat m mul_kind s >>= λ r. eat_word m c as_kind r >>= λ a. local_by c a >>= λ l. Ok (import_star_as_specifier (spanned m s l.1) l.0, l.1)
+  star_import c s = eat m mul_kind s >>= λ r. eat_word m c as_kind r >>= λ a. local_by c a >>= λ l. Ok (import_star_as_specifier (spanned m (here m s) l.1) l.0, l.1)
 
-  unfoldable pub import_end : Code → State S → List Tree → Read S Tree
+  unfoldable pub import_end : Code → ℕ → List Tree → Read S Tree
   import_end c start xs s = eat_word m c from_kind s >>= λ r. source_by c r >>= λ f. Ok (import_decl (spanned m start f.1) (pack xs) f.0.src f.0.with_, f.1)
 
   -- a star or a list, after what stands before them
-  unfoldable pub import_rest : Code → State S → List Tree → Read S Tree
+  unfoldable pub import_rest : Code → ℕ → List Tree → Read S Tree
   import_rest c start xs s =
       if at m mul_kind s then (star_import c s >>= λ x. import_end c start (xs ++ x.0 ∷ []) x.1)
       else (eat m left_brace_kind s >>= λ r. specifiers_by true c r >>= λ ys. import_end c start (xs ++ ys.0) ys.1)
 
-  unfoldable pub import_default : Code → State S → Read S Tree
+  unfoldable pub import_default : Code → ℕ → Read S Tree
   import_default c start s = local_by c s >>= λ l.
       if at m comma_kind l.1 then import_rest c start (import_default_specifier (first m inner s) l.0 ∷ []) (past m l.1)
       else import_end c start (import_default_specifier (first m inner s) l.0 ∷ []) l.1
 
   unfoldable pub import_decl_by : Code → Read S Tree
   import_decl_by c s = eat_word m c import_kind s >>= λ r.
-      if at m str_kind r then (source_by c r >>= λ f. Ok (import_decl (spanned m s f.1) none f.0.src f.0.with_, f.1))
-      else (if is_word (kind (input m r)) then import_default c s r else import_rest c s [] r)
+      if at m str_kind r then (source_by c r >>= λ f. Ok (import_decl (spanned m (here m s) f.1) none f.0.src f.0.with_, f.1))
+      else (if is_word (kind (input m r)) then import_default c (here m s) r else import_rest c (here m s) [] r)
 
   -- ---- exports
 
-  unfoldable pub export_default : Code → State S → Read S Tree
+  unfoldable pub export_default : Code → ℕ → Read S Tree
   export_default c start s =
-      if at m function_kind s then (function_expr_by m inner c s false s >>= λ d. Ok (export_default_decl (spanned m start d.1) d.0, d.1))
-      else (if starts_async m inner s then (function_expr_by m inner c s true (past m s) >>= λ d. Ok (export_default_decl (spanned m start d.1) d.0, d.1))
+      if at m function_kind s then (function_expr_by m inner c (here m s) false s >>= λ d. Ok (export_default_decl (spanned m start d.1) d.0, d.1))
+      else (if starts_async m inner s then (function_expr_by m inner c (here m s) true (past m s) >>= λ d. Ok (export_default_decl (spanned m start d.1) d.0, d.1))
       else (if at m class_kind s then (class_expr_by m inner c s >>= λ d. Ok (export_default_decl (spanned m start d.1) d.0, d.1))
       else (inner.expr c assignment_level s >>= λ e. end_of m c (ends e.0) e.1 >>= λ r. Ok (export_default_expr (spanned m start r) e.0, r))))
 
-  unfoldable pub export_star : Code → State S → Read S Tree
+  unfoldable pub export_star : Code → ℕ → Read S Tree
   export_star c start s = eat m mul_kind s >>= λ r.
       if at m as_kind r then (eat_word m c as_kind r >>= λ a. export_name_by a >>= λ n. eat_word m c from_kind n.1 >>= λ f. source_by c f >>= λ x.
-      Ok (named_export (spanned m start x.1) (more (export_namespace_specifier (spanned m s n.1) n.0) none) x.0.src x.0.with_, x.1))
+      Ok (named_export (spanned m start x.1) (more (export_namespace_specifier (spanned m (here m s) n.1) n.0) none) x.0.src x.0.with_, x.1))
       else (eat_word m c from_kind r >>= λ f. source_by c f >>= λ x. Ok (export_all (spanned m start x.1) x.0.src x.0.with_, x.1))
 
-  unfoldable pub export_list : Code → State S → Read S Tree
+  unfoldable pub export_list : Code → ℕ → Read S Tree
   export_list c start s = eat m left_brace_kind s >>= λ r. specifiers_by false c r >>= λ xs.
       if at m from_kind xs.1 then (eat_word m c from_kind xs.1 >>= λ f. source_by c f >>= λ x. Ok (named_export (spanned m start x.1) (pack xs.0) x.0.src x.0.with_, x.1))
       else (end_of m c exports_end xs.1 >>= λ e. Ok (named_export (spanned m start e) (pack xs.0) absent absent, e))
@@ -105,10 +105,10 @@ module _ {S : Type 0} (m : Stream S) (inner : Inner S) where
 
   unfoldable pub export_by : Code → Read S Tree
   export_by c s = eat_word m c export_kind s >>= λ r.
-      if at m default_kind r then (eat_word m c default_kind r >>= λ d. export_default c s (operand m d))
-      else (if at m mul_kind r then export_star c s r
-      else (if at m left_brace_kind r then export_list c s r
-      else (if starts_declaration (in_list c) r then (inner.stmt (in_list c) r >>= λ d. if is_exportable d.0 then Ok (export_decl (spanned m s d.1) d.0, d.1) else unexpected m d.1)
+      if at m default_kind r then (eat_word m c default_kind r >>= λ d. export_default c (here m s) (operand m d))
+      else (if at m mul_kind r then export_star c (here m s) r
+      else (if at m left_brace_kind r then export_list c (here m s) r
+      else (if starts_declaration (in_list c) r then (inner.stmt (in_list c) r >>= λ d. if is_exportable d.0 then Ok (export_decl (spanned m (here m s) d.1) d.0, d.1) else unexpected m d.1)
       else unexpected m r)))
 
   -- ---- programs
@@ -138,10 +138,10 @@ module _ {S : Type 0} (m : Stream S) (inner : Inner S) where
   abbrev pub program_tree : Bool → Span → Trees → Option (List ℕ) → Tree
   program_tree modules p ss l = if modules then es_module p ss l else script p ss l
 
-  unfoldable pub program_rest : Bool → Code → State S → Option (List ℕ) → Read S Tree
+  unfoldable pub program_rest : Bool → Code → ℕ → Option (List ℕ) → Read S Tree
   program_rest modules c start l s = iterate (bound m) (program_step modules) (record { items = []; code = c; starts = true }) s >>= λ b.
       Ok (program_tree modules (spanned m start b.1) (pack b.0.items) l, b.1)
 
   unfoldable pub program_by : Bool → Code → Read S Tree
   program_by modules c s =
-      if at m shebang_kind s then elim (line_of (content (input m s))) [ None ↦ unexpected m s | Some l ↦ program_rest modules c s (Some l) (past m s) ] else program_rest modules c s None s
+      if at m shebang_kind s then elim (line_of (content (input m s))) [ None ↦ unexpected m s | Some l ↦ program_rest modules c (here m s) (Some l) (past m s) ] else program_rest modules c (here m s) None s

@@ -80,9 +80,13 @@ module _ {S : Type 0} (m : Stream S) where
   abbrev pub too_deep : {A : Type 0} → State S → Result A Fault
   too_deep s = Err (TooDeep (bound s))
 
-  -- from the start of the token at hand in one state to the end of what was consumed before another
-  abbrev pub spanned : State S → State S → Span
-  spanned s r = span (lo (input s)) (m.last r.source)
+  -- the place where the token at hand begins
+  abbrev pub here : State S → ℕ
+  here s = lo (input s)
+
+  -- from a place to the end of what was consumed before a state
+  abbrev pub spanned : ℕ → State S → Span
+  spanned start r = span start (m.last r.source)
 
   abbrev pub at : ℕ → State S → Bool
   at k s = kind (input s) == k

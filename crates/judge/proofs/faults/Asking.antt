@@ -1,6 +1,7 @@
 -- How a node's faults, and those of lists, are told by what is asked.
 use Rattle.std.proofs.lemmas.List.{drop_more}
 use Rattle.std.proofs.Common.{ℕ, ◌+◌, ◌<◌, length, get_or, drop, ◌≡◌, Bool, true, false, not, ◌&&◌, ◌||◌, if◌then◌else◌, List, [], ◌∷◌, ◌++◌, ◌∙◌, append_assoc, append-nil, Option, Some, None, is_some, refl, sym, ap}
+use Rattle.std.proofs.Math.Bool.{and-true}
 use Rattle.base_token.specs.declared.error.Error.{Error}
 use Rattle.base_token.specs.declared.error.SyntaxError.TheVariants.{DuplicateConstructor, DuplicateProto, InitRequired, InitRequiredForUsingDecl, InvalidSuperCall, UsingDeclNotAllowed, UsingDeclNotAllowedForForInLoop}
 use Rattle.base_token.specs.declared.place.Span.{Span}
@@ -50,12 +51,8 @@ child_bare t e = refl
 
 -- ---- lists
 
-and_true : (b : Bool) → (b && true) ≡ b
-and_true true = refl
-and_true false = refl
-
 pub bare_alone : (p : Tree) → are_bare (more p none) ≡ is_bare p
-bare_alone p = and_true (is_bare p)
+bare_alone p = and-true (is_bare p)
 
 -- a node's own faults, and those of three parts behind them
 pub for_in_behind : (s : Span) (l r b : Tree) (x h y z : Scope) (es f1 f2 f3 f4 : List Error) → f1 ≡ es ++ found true (using_of l) UsingDeclNotAllowedForForInLoop → h ≡ heading x → f2 ≡ f1 ++ fold step l h → y ≡ looping x → f3 ≡ f2 ++ fold step r y → z ≡ looping x → f4 ≡ f3 ++ fold step b z → f4 ≡ es ++ fold step (for_in_stmt s l r b) x
@@ -87,14 +84,6 @@ setter_behind s w k p ss x y z v bare own es f1 f2 f3 f4 hb ho a c hy hz d hv e 
 pub texts_have_none : (xs : List TplElement) (x : Scope) → every (folds step (trees_by view_tpl_element xs)) x ≡ []
 texts_have_none [] x = refl
 texts_have_none (t ∷ ts) x = texts_have_none ts x
-
-or_true : (b : Bool) → (b || true) ≡ true
-or_true true = refl
-or_true false = refl
-
-or_false : (b : Bool) → (b || false) ≡ b
-or_false true = refl
-or_false false = refl
 
 some_if : (b : Bool) (s : Span) → b ≡ is_some (if b then Some s else None)
 some_if true s = refl

@@ -1,20 +1,14 @@
 -- The faults of a chain are those of what stands below it, and those of what stands right of the left part of each link.
 use Rattle.std.proofs.Common.{◌≡◌, ◌+◌, ◌-◌, ◌≤◌, ◌++◌, ◌&&◌, ℕ, zero, suc, true, false, not, List, [], ◌∷◌, refl, sym, ap, subst, ◌∙◌, append-nil, append_assoc}
+use Rattle.std.proofs.Math.Nat.{add-zero, add-suc, add-sub_of_le}
 use Rattle.base_token.specs.declared.place.Span.{Span}
 use Rattle.base_token.specs.declared.error.Error.{Error}
 use Rattle.base_token.specs.declared.error.SyntaxError.TheVariants.{InvalidSuperCall}
 use Rattle.tree_spec.specs.Tree.{Tree, Trees, bin_expr, member_expr, super, call_expr, tagged_tpl, opt_chain_expr, opt_call, list}
 use Rattle.tree_spec.specs.Folds.{fold, folds}
-use Rattle.tree_nodes.specs.View.{view_expr_kind}
-use Rattle.tree_nodes.specs.declared.expressions.BinExprOf.{BinExprOf}
-use Rattle.tree_nodes.specs.declared.expressions.CallExprOf.{CallExprOf}
-use Rattle.tree_nodes.specs.declared.expressions.ExprKindOf.{ExprKindOf}
 use Rattle.tree_nodes.specs.declared.expressions.ExprKindOf.TheVariants as ExprKind
-use Rattle.tree_nodes.specs.declared.expressions.MemberExprOf.{MemberExprOf}
-use Rattle.tree_nodes.specs.declared.expressions.OptChainExprOf.{OptChainExprOf}
-use Rattle.tree_nodes.specs.declared.expressions.TaggedTplOf.{TaggedTplOf}
 use Rattle.tree_visit.specs.Spine.Chains.{Linked, base_left, below, is_base, is_head_word, is_link, left_part}
-use Rattle.tree_visit.proofs.spine.Chains.{below_falls, callee_left, inner_falls, outer_falls, top_falls, further, inner_links, literal_is_none, no, none_more, one_link, one_more, outer_links, sum}
+use Rattle.tree_visit.proofs.spine.Chains.{below_falls, callee_left, inner_falls, outer_falls, top_falls, further, inner_links, no, one_link, outer_links}
 use Rattle.grammar_spec.specs.Judge.Early.{Scope, every, fault, step, within}
 use Rattle.judge.specs.Faults.Asked.{is_super}
 use Rattle.judge.specs.Faults.Rights.{base_faults, link_faults, right_faults}
@@ -53,17 +47,6 @@ link (tagged_tpl p t q) c h = two_fields (fold step t c) (fold step q c)
 link (opt_chain_expr p q b) c h = append-nil (fold step b c ++ []) ∙ append-nil (fold step b c) ∙ base_link b (opt_chain_expr p q b) c h
 link _ c h = no h
 
--- what is of none of these kinds is no link
-pub no_link : {T : Type 0} (f : T → Tree) (k : ExprKindOf T) → ((x : BinExprOf T) → k ≡ ExprKind.Bin x → ⊥) → ((x : MemberExprOf T) → k ≡ ExprKind.Member x → ⊥) → ((x : CallExprOf T) → k ≡ ExprKind.Call x → ⊥)
-    → ((x : TaggedTplOf T) → k ≡ ExprKind.TaggedTpl x → ⊥) → ((x : OptChainExprOf T) → k ≡ ExprKind.OptChain x → ⊥) → is_link (view_expr_kind f k) ≡ false
-no_link f (ExprKind.Bin x) h m c t o = absurd (h x refl)
-no_link f (ExprKind.Member x) h m c t o = absurd (m x refl)
-no_link f (ExprKind.Call x) h m c t o = absurd (c x refl)
-no_link f (ExprKind.TaggedTpl x) h m c t o = absurd (t x refl)
-no_link f (ExprKind.OptChain x) h m c t o = absurd (o x refl)
-no_link f (ExprKind.Lit x) h m c t o = literal_is_none x
-no_link f k h m c t o = refl
-
 -- ---- so many links
 
 pub spine : (n : ℕ) (t : Tree) (c : Scope) → Linked n t → fold step t c ≡ fold step (below n t) c ++ right_faults n t c
@@ -74,13 +57,13 @@ spine (suc n) t c h = spine n t c h.0 ∙ ap (λ x. x ++ right_faults n t c) (li
 
 halves : (a b : ℕ) (t : Tree) (c : Scope) → right_faults (a + b) t c ≡ right_faults b (below a t) c ++ right_faults a t c
 unfolding right_faults
-halves a zero t c = rw (none_more a) refl
-halves a (suc b) t c = ap (λ n. right_faults n t c) (one_more a b) ∙ ap (λ x. link_faults (below (a + b) t) c ++ x) (halves a b t c)
+halves a zero t c = rw (add-zero a) refl
+halves a (suc b) t c = ap (λ n. right_faults n t c) (add-suc a b) ∙ ap (λ x. link_faults (below (a + b) t) c ++ x) (halves a b t c)
     ∙ ap (λ x. link_faults x c ++ (right_faults b (below a t) c ++ right_faults a t c)) (further a b t)
     ∙ sym (append_assoc (link_faults (below b (below a t)) c) (right_faults b (below a t) c) (right_faults a t c))
 
 pub by_halves : (a n : ℕ) (t : Tree) (c : Scope) → a ≤ n → right_faults n t c ≡ right_faults (n - a) (below a t) c ++ right_faults a t c
-by_halves a n t c h = ap (λ x. right_faults x t c) (sym (sum a n h)) ∙ halves a (n - a) t c
+by_halves a n t c h = ap (λ x. right_faults x t c) (sym (add-sub_of_le h)) ∙ halves a (n - a) t c
 
 -- the faults below a chain and those of its links, behind others
 pub joined : (a b d : List Error) (n : ℕ) (t : Tree) (c : Scope) → Linked n t → b ≡ a ++ fold step (below n t) c → d ≡ b ++ right_faults n t c → d ≡ a ++ fold step t c

@@ -4,7 +4,7 @@ use Rattle.std.specs.Prelude.{◌==◌, slice_index, slice_range}
 use Rattle.std.specs.Fmt.{is_char_start}
 use Rattle.std.proofs.Math.Seq.{drop-append_seam, take-append_seam}
 use Rattle.std.proofs.lemmas.List.{get_or-append-add, get_or-drop, get_or-take}
-use Rattle.std.proofs.lemmas.Bool.{cases_Bool, and_parts}
+use Rattle.std.proofs.lemmas.Bool.{cases_Bool, and_parts, and_from}
 use Rattle.std.proofs.lemmas.Bool.Decides.{nat_tests}
 use Rattle.base_token.specs.Kinds.{template_kind}
 use Rattle.base_token.specs.Tokens.{Spot}
@@ -89,10 +89,6 @@ starts_text source last (spot ∷ spots) =
 
 -- ---- the own bytes of a token that was moved
 
-and_both : (a b : Bool) → a ≡ true → b ≡ true → (a && b) ≡ true
-and_both true b h g = g
-and_both false b h g = h
-
 slice_seam : (before own behind : List ℕ) → slice_range (before ++ (own ++ behind)) (length before) (length before + length own) ≡ own
 slice_seam before own behind =
     let size : length before + length own - length before ≡ length own = omega arith in
@@ -104,7 +100,7 @@ cut_here before behind at e h =
     let within : nat_le at (length (before ++ behind)) ≡ true = grind (arith, nat_tests) in
     let byte : slice_index (before ++ behind) at ≡ get_or behind 0 0 =
     ap (λ k. get_or (before ++ behind) k 0) (let k : at ≡ length before + 0 = omega (arith, e) in k) ∙ get_or-append-add before behind 0 0 in
-    and_both (nat_le at (length (before ++ behind))) (is_char_start (slice_index (before ++ behind) at)) within (ap is_char_start byte ∙ h)
+    and_from (nat_le at (length (before ++ behind))) (is_char_start (slice_index (before ++ behind) at)) within (ap is_char_start byte ∙ h)
 
 pub own_again : (before own behind : List ℕ) (lo hi : ℕ) → Starts (own ++ behind) → Starts behind → lo ≡ length before + 1 → hi ≡ lo + length own
     → own_bytes (before ++ (own ++ behind)) lo hi ≡ own
@@ -118,7 +114,7 @@ own_again before own behind lo hi h g e f =
     let there : is_cut whole (hi - 1) ≡ true =
     ap (λ w. is_cut w (hi - 1)) (sym (append_assoc before own behind)) ∙ cut_here (before ++ own) behind (hi - 1) (let k : hi - 1 ≡ length (before ++ own) = omega (arith, to, size) in k) g in
     let all : (nat_le lo hi && (is_cut whole (lo - 1) && is_cut whole (hi - 1))) ≡ true =
-    and_both (nat_le lo hi) (is_cut whole (lo - 1) && is_cut whole (hi - 1)) order (and_both (is_cut whole (lo - 1)) (is_cut whole (hi - 1)) here there) in
+    and_from (nat_le lo hi) (is_cut whole (lo - 1) && is_cut whole (hi - 1)) order (and_from (is_cut whole (lo - 1)) (is_cut whole (hi - 1)) here there) in
     ap (λ b. cond b (slice_range whole (lo - 1) (hi - 1)) []) all
     ∙ ap (λ i. slice_range whole i (hi - 1)) from ∙ ap (λ j. slice_range whole (length before) j) to ∙ slice_seam before own behind
 

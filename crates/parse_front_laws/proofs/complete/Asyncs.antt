@@ -141,12 +141,10 @@ named_with q v b (x ∷ f) h = (h.0, named_with q v b f h.1)
 
 module _ (placed : Bool) (c : Code) (l : ℕ) (least : 1 ≤ l) (most : l ≤ 2) (n : ℕ) (ps : List PlacedToken) (t : Tree) (r : Input) (q : PlacedToken) (beyond front : List PlacedToken) (is : ps ≡ front ++ q ∷ beyond) (there : r.places ≡ q ∷ beyond)
     (named : Named ps) (order : InOrder n ps) (g : Expression false l c t (input_at n ps) r) (stop : goes_expr c (ends t) r < l) (word : may_name q.spot.token.kind ≡ true) (waits : ends_async t ≡ true) (free : takes_name c (last_of t) r ≡ false) where
-  plain : eqb q.spot.token.kind question_mark_kind ≡ false
-  plain = no_kind may_name q.spot.token.kind question_mark_kind word refl
-
   -- before the name alone, and before `=>` behind it
   read_short : (b : Bool) (d : ℕ) → nesting t ≤ d → IsRead ((readers lm d).expr c l (at_list n (front ++ q ∷ arrow_or q b) [])) t (input_at r.last (q ∷ arrow_or q b))
   read_short b d deep =
+      let plain : eqb q.spot.token.kind question_mark_kind ≡ false = no_kind may_name q.spot.token.kind question_mark_kind word refl in
       let here : Onto q beyond (arrow_or q b) (arrow_mild q b) plain r (input_at r.last (q ∷ arrow_or q b)) = record { last = refl; front = []; left = there; right = refl } in
       let z = move false (onto q beyond (arrow_or q b) (arrow_mild q b) plain) t (coded false c) (input_at n ps) r (input_at r.last (q ∷ arrow_or q b)) g.1 here in
       let f = (halves z.1.front (q ∷ beyond) front (q ∷ beyond) (sym z.1.left ∙ is) refl).0 in

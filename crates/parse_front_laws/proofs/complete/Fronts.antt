@@ -3,7 +3,7 @@ use Rattle.std.proofs.Common.{◌≡◌, ◌<◌, ◌≤◌, ◌+◌, ℕ, zero,
 use Rattle.base_token.specs.Kinds.{template_kind, question_mark_kind, dot_kind, hash_kind, in_kind}
 use Rattle.tree_spec.specs.Tree.{Tree, none, more}
 use Rattle.tree_nesting.specs.Nesting.{nesting}
-use Rattle.grammar_spec.specs.Tokens.Input.{PlacedToken, Input, Code, kind, kind_of, has_in, alone, in_list, module_code}
+use Rattle.grammar_spec.specs.Tokens.Input.{PlacedToken, Input, Code, kind, kind_of, has_in, alone, in_list, module_code, lo}
 use Rattle.grammar_spec.specs.Tokens.Operators.{goes_expr, closed_end, postfix_end, other_end, call_level, conditional_level, new_level, member_level, binary_level}
 use Rattle.grammar_spec.specs.Tokens.Shape.{level, ends, is_key, is_plain_function}
 use Rattle.grammar_spec.specs.Children.{is_module_item}
@@ -228,7 +228,7 @@ module _ (c : Code) (l : ℕ) where
   quit_if true x y h n = h refl
   quit_if false x y h n = n refl
 
-  module _ (inner : Inner Input) (start : State Input) where
+  module _ (inner : Inner Input) (start : ℕ) where
     turned : (n : ℕ) (k : ℕ) → ((x : Tree) (s : State Input) → Quit (iterate_n (bound lm) n (loop_step lm inner c l start) x s)) → (x : Result (Tree × State Input) Fault) → Quit ((x >>= λ y. Ok (go_on y.0, y.1)) >>= next_by (bound lm) (iterate_n (bound lm) n (loop_step lm inner c l start)) k)
     turned n k h (Ok x) = quit_if (nat_lt (bound lm x.1) k) _ _ (λ e. h x.0 x.1) (λ e. record { so = tt })
     turned n k h (Err e) = record { so = tt }
@@ -254,8 +254,8 @@ module _ (c : Code) (l : ℕ) where
 
   expr_quits : (inner : Inner Input) → eqb l member_level ≡ false → (s : State Input) → Quit (expr_by lm inner c l s)
   unfolding expr_by expr_from private_in
-  expr_quits inner e s = quit_if (at lm hash_kind s) _ _ (λ i. quit_then (private_by lm inner s) _ (λ p. quit_if (at lm in_kind p.1 && (has_in c && nat_le l (binary_level in_kind))) _ _ (λ j. quit_then (binary_by lm inner c s p.0 p.1) _ (λ t. loop_quits inner s e t.0 t.1)) (λ j. record { so = tt })))
-      (λ i. quit_then (prefix_by lm inner c l s) _ (λ t. loop_quits inner s e t.0 t.1))
+  expr_quits inner e s = quit_if (at lm hash_kind s) _ _ (λ i. quit_then (private_by lm inner s) _ (λ p. quit_if (at lm in_kind p.1 && (has_in c && nat_le l (binary_level in_kind))) _ _ (λ j. quit_then (binary_by lm inner c (lo (input lm s)) p.0 p.1) _ (λ t. loop_quits inner (lo (input lm s)) e t.0 t.1)) (λ j. record { so = tt })))
+      (λ i. quit_then (prefix_by lm inner c l s) _ (λ t. loop_quits inner (lo (input lm s)) e t.0 t.1))
 
   pub readers_quit : (d : ℕ) → eqb l member_level ≡ false → (s : State Input) → Quit ((readers lm d).expr c l s)
   unfolding readers

@@ -1,11 +1,21 @@
 -- Laws of chains.
 use Rattle.std.proofs.Common.{◌≡◌, ◌+◌, ◌*◌, ◌-◌, ◌≤◌, ◌<◌, ℕ, zero, suc, Bool, true, false, not, if◌then◌else◌, refl, sym, ap, ◌∙◌, arith, subst}
+use Rattle.std.proofs.lemmas.Bool.{cond-false, not-true}
+use Rattle.std.proofs.Math.Nat.{add-zero, add-suc, add-sub_of_le}
+use Rattle.std.proofs.Math.Numerals.{add-one}
 use Rattle.base_token.specs.declared.place.Span.{Span}
 use Rattle.tree_spec.specs.Tree.{Tree, Trees, bin_expr, member_expr, call_expr, tagged_tpl, opt_chain_expr, opt_call}
 use Rattle.tree_spec.specs.Codes.{tree_size}
-use Rattle.tree_nodes.specs.View.{view_lit}
+use Rattle.tree_nodes.specs.View.{view_lit, view_expr_kind}
 use Rattle.tree_nodes.specs.declared.literals.Lit.{Lit}
 use Rattle.tree_nodes.specs.declared.literals.Lit.TheVariants as Lit
+use Rattle.tree_nodes.specs.declared.expressions.BinExprOf.{BinExprOf}
+use Rattle.tree_nodes.specs.declared.expressions.CallExprOf.{CallExprOf}
+use Rattle.tree_nodes.specs.declared.expressions.ExprKindOf.{ExprKindOf}
+use Rattle.tree_nodes.specs.declared.expressions.ExprKindOf.TheVariants as ExprKind
+use Rattle.tree_nodes.specs.declared.expressions.MemberExprOf.{MemberExprOf}
+use Rattle.tree_nodes.specs.declared.expressions.OptChainExprOf.{OptChainExprOf}
+use Rattle.tree_nodes.specs.declared.expressions.TaggedTplOf.{TaggedTplOf}
 use Rattle.tree_nodes.proofs.Spines.{top_falls as node_falls}
 use Rattle.tree_visit.specs.Spine.Chains.{Linked, base_left, below, is_base, is_head_word, is_link, left_part}
 
@@ -40,9 +50,16 @@ literal_is_no_word (Lit.Regex x) = refl
 
 -- ---- one link
 
-pub other_way : {A : Type 0} (x : Bool) (a b : A) → not x ≡ true → (if x then a else b) ≡ b
-other_way false a b h = refl
-other_way true a b h = no h
+-- what is of none of these kinds is no link
+pub no_link : {T : Type 0} (f : T → Tree) (k : ExprKindOf T) → ((x : BinExprOf T) → k ≡ ExprKind.Bin x → ⊥) → ((x : MemberExprOf T) → k ≡ ExprKind.Member x → ⊥) → ((x : CallExprOf T) → k ≡ ExprKind.Call x → ⊥)
+    → ((x : TaggedTplOf T) → k ≡ ExprKind.TaggedTpl x → ⊥) → ((x : OptChainExprOf T) → k ≡ ExprKind.OptChain x → ⊥) → is_link (view_expr_kind f k) ≡ false
+no_link f (ExprKind.Bin x) h m c t o = absurd (h x refl)
+no_link f (ExprKind.Member x) h m c t o = absurd (m x refl)
+no_link f (ExprKind.Call x) h m c t o = absurd (c x refl)
+no_link f (ExprKind.TaggedTpl x) h m c t o = absurd (t x refl)
+no_link f (ExprKind.OptChain x) h m c t o = absurd (o x refl)
+no_link f (ExprKind.Lit x) h m c t o = literal_is_none x
+no_link f k h m c t o = refl
 
 -- a call goes on from what is an expression
 pub goes_on : (p : Span) (f : Tree) (xs : Trees) → is_head_word f ≡ false → left_part (call_expr p f xs) ≡ f
@@ -53,7 +70,7 @@ call_links p f xs h = rw h refl
 
 -- the left part of a call that is a link
 pub callee_left : (p : Span) (f : Tree) (xs : Trees) → is_link (call_expr p f xs) ≡ true → left_part (call_expr p f xs) ≡ f
-callee_left p f xs h = other_way (is_head_word f) (call_expr p f xs) f h
+callee_left p f xs h = cond-false (is_head_word f) (call_expr p f xs) f (not-true (is_head_word f) h)
 
 -- what is no link is its own left part
 word_stays : (x : Bool) (a b : Tree) → not x ≡ false → (if x then a else b) ≡ a
@@ -92,22 +109,13 @@ left_falls t l h e = let a : tree_size (left_part t) + 2 ≤ tree_size t = left_
 
 -- ---- so many links
 
-pub none_more : (a : ℕ) → a + 0 ≡ a
-none_more a = omega (arith)
-
-pub one_more : (a b : ℕ) → a + suc b ≡ suc (a + b)
-one_more a b = omega (arith)
-
-next : (n : ℕ) → n + 1 ≡ suc n
-next n = omega (arith)
-
 pub below_next : (n : ℕ) (t : Tree) → below (n + 1) t ≡ left_part (below n t)
 unfolding below
-below_next n t = rw (next n) refl
+below_next n t = rw (add-one n) refl
 
 pub linked_next : (n : ℕ) (t : Tree) → Linked n t → is_link (below n t) ≡ true → Linked (n + 1) t
 unfolding Linked
-linked_next n t h e = subst (λ x. Linked x t) (sym (next n)) (h, e)
+linked_next n t h e = subst (λ x. Linked x t) (sym (add-one n)) (h, e)
 
 pub none_below : (t : Tree) → below 0 t ≡ t
 unfolding below
@@ -130,18 +138,18 @@ pub ruleset counted = (below_next, linked_next, none_below, none_linked)
 -- so many links down and as many more
 pub further : (a b : ℕ) (t : Tree) → below (a + b) t ≡ below b (below a t)
 unfolding below
-further a zero t = rw (none_more a) refl
-further a (suc b) t = rw (one_more a b) (ap left_part (further a b t))
+further a zero t = rw (add-zero a) refl
+further a (suc b) t = rw (add-suc a b) (ap left_part (further a b t))
 
 first_part : (a b : ℕ) (t : Tree) → Linked (a + b) t → Linked a t
 unfolding Linked
-first_part a zero t h = subst (λ x. Linked x t) (none_more a) h
-first_part a (suc b) t h = let k : Linked (suc (a + b)) t = subst (λ x. Linked x t) (one_more a b) h in first_part a b t k.0
+first_part a zero t h = subst (λ x. Linked x t) (add-zero a) h
+first_part a (suc b) t h = let k : Linked (suc (a + b)) t = subst (λ x. Linked x t) (add-suc a b) h in first_part a b t k.0
 
 second_part : (a b : ℕ) (t : Tree) → Linked (a + b) t → Linked b (below a t)
 unfolding Linked
 second_part a zero t h = tt
-second_part a (suc b) t h = let k : Linked (suc (a + b)) t = subst (λ x. Linked x t) (one_more a b) h in
+second_part a (suc b) t h = let k : Linked (suc (a + b)) t = subst (λ x. Linked x t) (add-suc a b) h in
     (second_part a b t k.0, ap is_link (sym (further a b t)) ∙ k.1)
 
 -- what is below links is smaller
@@ -151,19 +159,16 @@ smaller zero t h = omega (arith)
 smaller (suc n) t h = let a : tree_size (below n t) + 2 * n ≤ tree_size t = smaller n t h.0 in
     let b : tree_size (left_part (below n t)) + 2 ≤ tree_size (below n t) = left_smaller (below n t) h.1 in omega (arith)
 
-pub sum : (a n : ℕ) → a ≤ n → a + (n - a) ≡ n
-sum a n h = omega (arith)
-
 pub outer_links : (a n : ℕ) (t : Tree) → a ≤ n → Linked n t → Linked a t
-outer_links a n t h l = first_part a (n - a) t (subst (λ x. Linked x t) (sym (sum a n h)) l)
+outer_links a n t h l = first_part a (n - a) t (subst (λ x. Linked x t) (sym (add-sub_of_le h)) l)
 
 pub inner_links : (a n : ℕ) (t : Tree) → a ≤ n → Linked n t → Linked (n - a) (below a t)
-inner_links a n t h l = second_part a (n - a) t (subst (λ x. Linked x t) (sym (sum a n h)) l)
+inner_links a n t h l = second_part a (n - a) t (subst (λ x. Linked x t) (sym (add-sub_of_le h)) l)
 
 -- ---- what falls in a recursion by halves: the links that are left, with what stands right of their left parts
 
 bottom : (k n : ℕ) (t : Tree) → k ≤ n → below (n - k) (below k t) ≡ below n t
-bottom k n t h = sym (further k (n - k) t) ∙ ap (λ x. below x t) (sum k n h)
+bottom k n t h = sym (further k (n - k) t) ∙ ap (λ x. below x t) (add-sub_of_le h)
 
 pub below_falls : (n : ℕ) (t : Tree) → Linked n t → (n ≡ 0 → ⊥) → tree_size (below n t) < tree_size t
 below_falls n t h z = let a : tree_size (below n t) + 2 * n ≤ tree_size t = smaller n t h in omega (arith)
@@ -180,12 +185,8 @@ outer_falls k n t l h = let m : k ≤ n = omega (arith) in
     let b : tree_size (below (n - k) (below k t)) + 2 * (n - k) ≤ tree_size (below k t) = smaller (n - k) (below k t) (inner_links k n t m l) in
     let c : tree_size (below n t) + 2 * (n - k) ≤ tree_size (below k t) = subst (λ x. tree_size x + 2 * (n - k) ≤ tree_size (below k t)) (bottom k n t m) b in omega (arith)
 
--- no tree is without size
-some_size : (t : Tree) → 0 < tree_size t
-some_size t = let a = node_falls 0 t in omega (arith, a)
-
 pub top_falls : (n : ℕ) (t : Tree) → 2 * (tree_size t - tree_size (below n t)) + 1 < 2 * tree_size t
-top_falls n t = let a : 0 < tree_size t = some_size t in let b : 0 < tree_size (below n t) = some_size (below n t) in omega (arith)
+top_falls n t = let a = node_falls 0 t in let b = node_falls 0 (below n t) in omega (arith, a, b)
 
 -- what stands right of the left part of the one link that is left is smaller, however its size is counted
 pub rest_falls : (n m w : ℕ) (top : Tree) → n ≡ 1 → w + 2 * tree_size (left_part top) ≤ 2 * tree_size top → 2 * (tree_size top - tree_size (below n top)) + 1 ≡ m → w < m

@@ -1,8 +1,9 @@
 use Rattle.std.proofs.Common.{◌<◌, ◌||◌, true, length, IsUtf8, IfSome, sym, subst, ◌∙◌, arith}
 use Rattle.std.specs.Str.{chars}
+use Rattle.std.proofs.lemmas.Option.{MatchOption-at_some}
 use Rattle.lex_pieces.specs.Trivia.{IsPiece, NoTrivia}
 use Rattle.lex_pieces.specs.ReadingTrivia.{view}
-use Rattle.lex_pieces.proofs.Following.{turn, last, broken_now, broken_as_before}
+use Rattle.lex_pieces.proofs.Following.{last, broken_now, broken_as_before}
 use Rattle.lex_pieces.proofs.Noting.{collected_more}
 use Rattle.lex_pieces.proofs.comments.collect_trivia.Goals as goal
 
@@ -12,7 +13,7 @@ loop-piece-preserved-then-breaks_line c =
     let rest = chars c.loop-piece.rest.now in
     let piece = c.in-Some.piece in
     let more = c.in-Some.more in
-    let is = turn (NoTrivia c.args.goal first rest) (λ x. IsPiece c.args.goal first rest (view x.0) (chars x.1.now)) c.in_ok-piece.field-0 (piece, more) c.in-Some.is c.in_ok-piece.ensures.piece in
+    let is = MatchOption-at_some (NoTrivia c.args.goal first rest) (λ x. IsPiece c.args.goal first rest (view x.0) (chars x.1.now)) (piece, more) c.in-Some.is c.in_ok-piece.ensures.piece in
     let part = subst (λ o. IfSome o (λ x. IsUtf8 x.1.now × (length x.1.now < length c.loop-piece.rest.now))) c.in-Some.is c.in_ok-piece.ensures.rest in
     let kept = c.in_ok-note.ensures.kept in (
       part.0,
@@ -27,7 +28,7 @@ loop-piece-preserved c =
     let rest = chars c.loop-piece.rest.now in
     let piece = c.in-Some.piece in
     let more = c.in-Some.more in
-    let is = turn (NoTrivia c.args.goal first rest) (λ x. IsPiece c.args.goal first rest (view x.0) (chars x.1.now)) c.in_ok-piece.field-0 (piece, more) c.in-Some.is c.in_ok-piece.ensures.piece in
+    let is = MatchOption-at_some (NoTrivia c.args.goal first rest) (λ x. IsPiece c.args.goal first rest (view x.0) (chars x.1.now)) (piece, more) c.in-Some.is c.in_ok-piece.ensures.piece in
     let part = subst (λ o. IfSome o (λ x. IsUtf8 x.1.now × (length x.1.now < length c.loop-piece.rest.now))) c.in-Some.is c.in_ok-piece.ensures.rest in
     let kept = c.in_ok-note.ensures.kept in (
       part.0,

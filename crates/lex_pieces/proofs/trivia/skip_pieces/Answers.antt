@@ -1,7 +1,8 @@
 use Rattle.std.proofs.Common.{◌<◌, ◌||◌, length, IsUtf8, IfSome, ap, subst, arith}
 use Rattle.std.specs.Str.{chars}
+use Rattle.std.proofs.lemmas.Option.{MatchOption-at_some}
 use Rattle.lex_pieces.specs.Trivia.{IsPassed, NoTrivia}
-use Rattle.lex_pieces.proofs.Following.{skipped_more, turn, last}
+use Rattle.lex_pieces.proofs.Following.{skipped_more, last}
 use Rattle.lex_pieces.proofs.trivia.skip_pieces.Goals as goal
 
 pub loop-breaks-preserved : goal.loop-breaks-preserved
@@ -11,8 +12,7 @@ loop-breaks-preserved c =
     let rest = chars c.loop-breaks.rest.now in
     let line_break = c.in-Some.breaks in
     let more = c.in-Some.more in
-    let o = c.in_ok-breaks.field-0 in
-    let is = turn (NoTrivia c.args.goal first rest) (λ x. IsPassed c.args.goal first rest x.0 (chars x.1.now)) o (line_break, more) c.in-Some.is c.in_ok-breaks.ensures.piece in
+    let is = MatchOption-at_some (NoTrivia c.args.goal first rest) (λ x. IsPassed c.args.goal first rest x.0 (chars x.1.now)) (line_break, more) c.in-Some.is c.in_ok-breaks.ensures.piece in
     let part = subst (λ o. IfSome o (λ x. IsUtf8 x.1.now × (length x.1.now < length c.loop-breaks.rest.now))) c.in-Some.is c.in_ok-breaks.ensures.rest in (
       part.0,
       omega (arith, part.1),

@@ -1,13 +1,14 @@
 use Rattle.std.proofs.Common.{⊎_elim, sym, subst}
 use Rattle.std.specs.Str.{chars}
+use Rattle.std.proofs.lemmas.Option.{MatchOption-at_some}
 use Rattle.lex_token.specs.Lexemes.{IsWord}
 use Rattle.lex_token.specs.Readings.{lexeme_view}
-use Rattle.lex_token.proofs.SpelledLemmas.{if_some, is_word, some_of}
+use Rattle.lex_token.proofs.SpelledLemmas.{if_some, is_word}
 use Rattle.lex_token.proofs.words.word.Goals as goal
 
 pub returns-in-Ok-Some-clause-word : goal.returns-in-Ok-Some-clause-word
 returns-in-Ok-Some-clause-word c =
-    let h = some_of _ _ c.in-Ok-Some.field-0 _ c.in-Ok-Some.field-0-is c.in-Ok-Some.ensures.name in
+    let h = MatchOption-at_some _ _ _ c.in-Ok-Some.field-0-is c.in-Ok-Some.ensures.name in
     let u = if_some _ c.in-Ok-Some.field-0 _ c.in-Ok-Some.field-0-is c.in-Ok-Some.ensures.text in
     subst (λ l. IsWord (chars c.args.text.now) (lexeme_view c.named.result) (chars l)) (sym c.named.ensures.rest)
     (is_word _ c.in-Ok-Some.name _ _ h u c.named.ensures.view)

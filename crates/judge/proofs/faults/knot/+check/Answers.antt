@@ -1,21 +1,20 @@
-use Rattle.std.proofs.Common.{rules, ◌≡◌, ◌++◌, ◌-◌, ◌/◌, ◌≤◌, ℕ, List, sym, ap, ◌∙◌, arith, append-nil}
+use Rattle.std.proofs.Common.{rules, ◌≡◌, ◌++◌, ◌-◌, ◌/◌, ℕ, List, sym, ap, ◌∙◌, append-nil}
+use Rattle.std.proofs.Math.Nat.{div-le_self}
 use Rattle.base_token.specs.declared.error.Error.{Error}
 use Rattle.tree_spec.specs.Tree.{Tree, opt_chain_expr}
 use Rattle.tree_spec.specs.Folds.{fold}
 use Rattle.tree_nodes.specs.Placed.{inner}
 use Rattle.tree_nodes.specs.View.{view_expr_kind, view_opt_chain_base}
 use Rattle.tree_visit.proofs.spine.Weights.{operand_falls, name_falls, arguments_fall, template_falls, chain_name_falls, chain_arguments_fall}
+use Rattle.tree_visit.proofs.spine.Chains.{no_link}
 use Rattle.grammar_spec.specs.Judge.Early.{Scope, step}
 use Rattle.judge.specs.Base.Around.{scope_of}
 use Rattle.judge.specs.Faults.Rights.{right_faults}
-use Rattle.judge.proofs.faults.Rights.{joined, halves_joined, no_link, no_other, no_rights}
+use Rattle.judge.proofs.faults.Rights.{joined, halves_joined, no_other, no_rights}
 use Rattle.judge.proofs.faults.knot.+check.Goals as goal
 
 none_behind : (a : List Error) (n : ℕ) (t : Tree) (c : Scope) → n ≡ 0 → a ≡ a ++ right_faults n t c
 none_behind a n t c e = sym (ap (λ x. a ++ right_faults x t c) e ∙ ap (λ x. a ++ x) (no_rights t c) ∙ append-nil a)
-
-half : (n : ℕ) → n / 2 ≤ n
-half n = omega (arith)
 
 -- src/knot.rt
 pub ExprCheck::check-returns : goal.ExprCheck::check-returns
@@ -91,6 +90,6 @@ check_rights-returns-in_default-kind t c = no_other c.args.links c.args.top.now 
 -- src/knot.rt
 pub check_rights-returns-in_ok-check_rights-in_default-2 : goal.check_rights-returns-in_ok-check_rights-in_default-2
 check_rights-returns-in_ok-check_rights-in_default-2 t c = halves_joined c.args.faults.now.items c.check_rights.new.faults.items
-    c.check_rights-in_default.new.faults.items (c.args.links / 2) c.args.links c.args.top.now (scope_of c.args.code) (half c.args.links)
+    c.check_rights-in_default.new.faults.items (c.args.links / 2) c.args.links c.args.top.now (scope_of c.args.code) (div-le_self c.args.links 2)
     (c.in_ok-check_rights-in_default.ensures ∙ ap (λ x. c.args.faults.now.items ++ right_faults (c.args.links - c.args.links / 2) x (scope_of c.args.code)) c.below.ensures)
     c.in_ok-check_rights-in_default-2.ensures
