@@ -18,9 +18,9 @@ use Rattle.lex_token.specs.declared.goal.LexicalGoal.TheVariants.{Div, RegExp, T
 use Rattle.lex_token.specs.Lexemes.{SpecLexeme, IsLexeme}
 use Rattle.lex_step_laws.specs.States.{shebang, spot_at}
 use Rattle.lex_step_laws.proofs.Tokens.{token_shorter}
+use Rattle.lex_step_laws.proofs.Bounds.{characters_kind}
 use Rattle.lex_run_laws.proofs.Behind.{lexeme_behind}
 use Rattle.lex_run_laws.proofs.Fronts.{no_trivia_by}
-use Rattle.lex_run_laws.proofs.Room.{characters_kind}
 use Rattle.grammar_spec.specs.Tokens.Input.{PlacedToken, Code}
 use Rattle.grammar_laws.specs.Slash.TemplateLaws.{Region, Outside, Inside, Behind, Nowhere, after, over}
 use Rattle.grammar_laws.proofs.slash.Braces.{programs_match}

@@ -1,5 +1,6 @@
 -- Printing a node emits it.
 use Rattle.std.proofs.Common.{MutBor, get_or, drop, ◌≡◌, ℕ, Bool, true, false, ◌||◌, if◌then◌else◌, List, [], ◌∷◌, Option, Some, None, Result, Ok, Err, refl, sym, ap, subst, ◌∙◌}
+use Rattle.std.proofs.lemmas.Bool.{or_parts}
 use base.Fml.{GName}
 use Rattle.base_token.specs.Counts.{count_after}
 use Rattle.print_writers.specs.Pages.{IsFront}
@@ -45,14 +46,6 @@ asked_stops : (x : Piece) (a : Asked) → a.stops ≡ false → (ask x a).stops 
 unfolding ask
 asked_stops x a e = rw e refl
 
-pub or_left : (b c : Bool) → (b || c) ≡ false → b ≡ false
-or_left true c e = absurd (cc)
-or_left false c e = refl
-
-pub or_right : (b c : Bool) → (b || c) ≡ false → c ≡ false
-or_right true c e = absurd (cc)
-or_right false c e = e
-
 or_other : (b c : Bool) → (b || c) ≡ true → b ≡ false → c ≡ true
 or_other true c e h = absurd (cc)
 or_other false c e h = e
@@ -89,8 +82,9 @@ whole (named pos own) a rest s r =
           ∙ (ap (λ (t : State). calls rest (call (Text None own) t)) (sym (asked_state (Mark pos) one x)) ∙ ap (calls rest) (sym (asked_state (Text None own) two y)));
     }
 whole (both f g) a rest s r =
-    let x = whole f a (listed g rest) s (or_left (is_refused f) (is_refused g) r) in
-    let y = whole g (lay f a) rest x.goes (or_right (is_refused f) (is_refused g) r) in
+    let parts = or_parts (is_refused f) (is_refused g) r in
+    let x = whole f a (listed g rest) s parts.0 in
+    let y = whole g (lay f a) rest x.goes parts.1 in
     record { goes = y.goes; calls_it = x.calls_it ∙ y.calls_it }
 whole refused a rest s r = absurd (cc)
 

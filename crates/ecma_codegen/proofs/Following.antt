@@ -1,5 +1,6 @@
 -- Layouts that are emitted one after the other.
 use Rattle.std.proofs.Common.{◌≡◌, ℕ, false, List, [], ◌∷◌, None, refl, sym, ap, ◌∙◌}
+use Rattle.std.proofs.lemmas.Bool.{or_parts}
 use Rattle.tree_spec.specs.Tree.{none, more}
 use Rattle.print_writers.specs.States.{State}
 use Rattle.print_pages_spec.specs.Pieces.{Piece, Text, call, calls}
@@ -8,7 +9,6 @@ use Rattle.print_layout_spec.specs.Looks.{Laid, ◌·◌, nothing, one, meant, n
 use Rattle.print_layout_spec.specs.Layout.{laid, closing, statements}
 use Rattle.ecma_codegen.specs.Emits.{emitted}
 use Rattle.ecma_codegen.specs.Items.{item_laid, ItemsAreProgram}
-use Rattle.ecma_codegen.proofs.Emitting.{or_left, or_right}
 
 texts_then : (texts : List (List ℕ)) (rest : List Piece) (s : State) → calls (texts_before texts rest) s ≡ calls rest (calls (texts_before texts []) s)
 texts_then [] rest s = refl
@@ -21,18 +21,17 @@ then_rest (one x) rest s e = refl
 then_rest (meant m) rest s e = texts_then (texts_of m) rest s
 then_rest (named pos own) rest s e = refl
 then_rest (both f g) rest s e =
-    let x = or_left (is_refused f) (is_refused g) e in
-    then_rest f (listed g rest) s x ∙ then_rest g rest (emitted f s) (or_right (is_refused f) (is_refused g) e) ∙ ap (calls rest) (sym (then_rest f (listed g []) s x))
+    let parts = or_parts (is_refused f) (is_refused g) e in
+    then_rest f (listed g rest) s parts.0 ∙ then_rest g rest (emitted f s) parts.1 ∙ ap (calls rest) (sym (then_rest f (listed g []) s parts.0))
 then_rest refused rest s e = absurd (cc)
 
 pub items_are_program : ItemsAreProgram
 items_are_program look none s e = refl
 items_are_program look (more t ts) s e =
     let f = laid look Alone t in
-    let rest : is_refused (closing look t · statements look ts) ≡ false = or_right (is_refused f) _ e in
-    let x = or_left (is_refused f) _ e in
-    let y = or_left (is_refused (closing look t)) _ rest in
-    then_rest f (listed (closing look t · statements look ts) []) s x
-    ∙ then_rest (closing look t) (listed (statements look ts) []) (emitted f s) y
-    ∙ ap (emitted (statements look ts)) (sym (then_rest f (listed (closing look t) []) s x))
-    ∙ items_are_program look ts (emitted (item_laid look t) s) (or_right (is_refused (closing look t)) _ rest)
+    let x = or_parts (is_refused f) (is_refused (closing look t · statements look ts)) e in
+    let y = or_parts (is_refused (closing look t)) (is_refused (statements look ts)) x.1 in
+    then_rest f (listed (closing look t · statements look ts) []) s x.0
+    ∙ then_rest (closing look t) (listed (statements look ts) []) (emitted f s) y.0
+    ∙ ap (emitted (statements look ts)) (sym (then_rest f (listed (closing look t) []) s x.0))
+    ∙ items_are_program look ts (emitted (item_laid look t) s) y.1

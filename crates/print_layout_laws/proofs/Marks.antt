@@ -1,55 +1,15 @@
 -- Where marks stand tells nothing of what pieces write.
-use Rattle.std.proofs.Common.{◌≡◌, ℕ, Bool, true, false, if◌then◌else◌, ◌==◌, List, [], ◌∷◌, length, Option, Some, None, codes, refl, ap, ◌∙◌}
+use Rattle.std.proofs.Common.{◌≡◌, Bool, true, false, if◌then◌else◌, ◌==◌, List, [], ◌∷◌, Some, None, codes, refl, ap, ◌∙◌}
 use Rattle.base_token.specs.declared.place.BytePos.{BytePos}
 use Rattle.base_token.specs.declared.place.Span.{Span}
 use Rattle.tree_spec.specs.Places.{no_place}
-use Rattle.print_writers.specs.Pages.{Page, put, put_some, put_line, put_mark, deeper, shallower, indented, with_text, marked, begun, ended, end_line}
+use Rattle.print_writers.specs.Pages.{Page, put, put_line, put_mark, deeper, shallower, marked}
 use Rattle.print_writers.specs.States.{span_or_none}
 use Rattle.print_pages_spec.specs.Pieces.{Piece, Text, Brace, Blank, Line, Deeper, Back, Semicolon, Commit, Mark, resolved, shortened, behind, semicolon}
+use Rattle.print_pages_spec.proofs.Unmarked.{plain, plain_put, plain_line, plain_deeper, plain_shallower}
 use Rattle.print_layout_laws.specs.Marks.{unmarked}
 
--- a page that keeps no marks
-abbrev plain : Page → Page
-plain p = record p { marks = None }
-
-plain_if : (b : Bool) (p q : Page) → plain (if b then p else q) ≡ (if b then plain p else plain q)
-plain_if true p q = refl
-plain_if false p q = refl
-
 -- ---- each step
-
-plain_indented : (p : Page) → plain (indented p) ≡ indented (plain p)
-unfolding indented
-plain_indented p = plain_if p.at_start _ p
-
-plain_begun : (span : Option Span) (p : Page) → plain (begun span p) ≡ begun span (plain p)
-unfolding marked
-plain_begun None p = refl
-plain_begun (Some span) p = refl
-
-plain_ended : (span : Option Span) (p : Page) → plain (ended span p) ≡ ended span (plain p)
-unfolding marked
-plain_ended None p = refl
-plain_ended (Some span) p = refl
-
-plain_with_text : (bytes : List ℕ) (p : Page) → plain (with_text bytes p) ≡ with_text bytes (plain p)
-unfolding with_text
-plain_with_text bytes p = refl
-
-plain_put_some : (span : Option Span) (bytes : List ℕ) (p : Page) → plain (put_some span bytes p) ≡ put_some span bytes (plain p)
-plain_put_some span bytes p =
-    plain_ended span (with_text bytes (begun span (indented p)))
-    ∙ ap (λ q. ended span q) (plain_with_text bytes (begun span (indented p))
-    ∙ ap (λ q. with_text bytes q) (plain_begun span (indented p)
-    ∙ ap (λ q. begun span q) (plain_indented p)))
-
-plain_put : (span : Option Span) (bytes : List ℕ) (p : Page) → plain (put span bytes p) ≡ put span bytes (plain p)
-unfolding put
-plain_put span bytes p = plain_if (length bytes == 0) p (put_some span bytes p) ∙ ap (λ q. if length bytes == 0 then plain p else q) (plain_put_some span bytes p)
-
-plain_line : (p : Page) → plain (put_line p) ≡ put_line (plain p)
-unfolding put_line end_line
-plain_line p = plain_if p.at_start _ _
 
 one_page : (b c : Bool) (p q r s : Page) → plain p ≡ s → plain q ≡ s → plain r ≡ s → plain (if b then p else (if c then q else r)) ≡ s
 one_page true c p q r s x y z = x
@@ -60,14 +20,6 @@ one_page false false p q r s x y z = z
 plain_mark : (pos : BytePos) (p : Page) → plain (put_mark pos p) ≡ put_mark no_place.lo (plain p)
 unfolding put_mark marked
 plain_mark pos p = one_page (pos.0 == 0) p.at_start p _ _ (plain p) refl refl refl
-
-plain_deeper : (p : Page) → plain (deeper p) ≡ deeper (plain p)
-unfolding deeper
-plain_deeper p = refl
-
-plain_shallower : (p : Page) → plain (shallower p) ≡ shallower (plain p)
-unfolding shallower
-plain_shallower p = refl
 
 -- ---- pieces
 

@@ -5,20 +5,17 @@ use Rattle.print_writers.specs.States.{State}
 use Rattle.print_writers.specs.declared.fault.EmitError.{EmitError}
 use Rattle.print_pieces.specs.Prints.{Prints}
 use Rattle.print_pieces.proofs.Steps.{idle}
-use Rattle.tree_spec.specs.Tree.{Tree, Trees, none, more, binding_ident, trees_by}
+use Rattle.tree_spec.specs.Tree.{Tree, none, more, trees_by}
 use Rattle.print_layout_spec.specs.declared.look.Look.{Look}
 use Rattle.print_layout_spec.specs.Looks.{Laid, ◌·◌, text, blank, formats, gap_or, when}
 use Rattle.print_layout_spec.specs.Layout.{is_one_name}
+use Rattle.print_layout_spec.proofs.Parameters.{several}
 
 pub blank_behind : (look : Look) (one : Bool) → gap_or look one ≡ when (formats look || one) blank
 blank_behind look one = elim look.style.minify as (λ (b : Bool). when (one || not b) blank ≡ when (not b || one) blank) [
   | true ↦ elim one as (λ (c : Bool). when (c || false) blank ≡ when c blank) [ true ↦ refl | false ↦ refl ]
   | false ↦ elim one as (λ (c : Bool). when (c || true) blank ≡ when true blank) [ true ↦ refl | false ↦ refl ]
 ]
-
-pub several : (t u : Tree) (ts : Trees) → is_one_name (more t (more u ts)) ≡ false
-several (binding_ident span id) u ts = refl
-several t u ts = refl
 
 -- nothing is written where something doesn't hold
 pub left_out : {S : Type 0} {tells : S → Type 0} {state : S → State} {failed : S → ℕ} {loans : S → List GName} (l : Laid) {w : S} {f : Option EmitError} {b : Bool}

@@ -1,5 +1,6 @@
 -- What is not asked of a sort.
 use Rattle.std.proofs.Common.{◌≡◌, ℕ, Bool, true, false, ◌&&◌, ◌||◌, refl, ap, ◌∙◌}
+use Rattle.std.proofs.lemmas.Bool.{and_right, or_from}
 use Rattle.tree_spec.specs.Tree.{Tree, none, more, block_stmt, var_decl, using_decl, seq_expr, number_lit, unary_expr, update_expr, bin_expr, assign_expr, cond_expr, call_expr, member_expr, opt_chain_expr, opt_call, tagged_tpl, regex_lit, array_pat, rest_pat, object_pat, binding_ident, hole}
 use Rattle.print_gaps.specs.Edges.{is_word_operator, starts_with_word, ends_with_word, gap_before, gap_after, gap_of_unary, first_operand, is_plus, is_minus, is_not_of_decrement, is_postfix_decrement, starts_with_regexp}
 use Rattle.print_layout_spec.specs.Layout.{is_block, is_variables, is_sequence, is_bracketed_name, is_one_name}
@@ -71,29 +72,21 @@ no_regexp (tagged_tpl span tag tpl_) e = absurd (cc)
 no_regexp (update_expr span op prefix arg) e = absurd (cc)
 no_regexp t e = refl
 
-and_false : (a b : Bool) → b ≡ false → (a && b) ≡ false
-and_false true b e = e
-and_false false b e = refl
-
 or_false : (a b : Bool) → b ≡ false → (a || b) ≡ a
 or_false true b e = refl
 or_false false b e = e
 
-neither : (a b : Bool) → a ≡ false → b ≡ false → (a || b) ≡ false
-neither true b e h = e
-neither false b e h = h
-
 pub gap_before_none : (op : ℕ) (t : Tree) → is_expression (sort_of t) ≡ false → gap_before op t ≡ (is_word_operator op && ends_with_word t)
-gap_before_none op t e = or_false _ _ (and_false _ _ (no_postfix t e))
+gap_before_none op t e = or_false _ _ (and_right _ _ (no_postfix t e))
 
 pub gap_of_unary_none : (op : ℕ) (t : Tree) → is_expression (sort_of t) ≡ false → gap_of_unary op t ≡ (is_word_operator op && starts_with_word t)
-gap_of_unary_none op t e = or_false _ _ (neither _ _ (and_false _ _ (no_plus t e)) (and_false _ _ (no_minus t e)))
+gap_of_unary_none op t e = or_false _ _ (or_from _ _ (and_right _ _ (no_plus t e)) (and_right _ _ (no_minus t e)))
 
 pub gap_after_none : (op : ℕ) (t : Tree) → is_expression (sort_of t) ≡ false → gap_after op t ≡ (is_word_operator op && starts_with_word t)
 gap_after_none op t e =
-    or_false _ _ (neither _ _ (and_false _ _ (ap is_plus (first_stays t e) ∙ no_plus t e))
-    (neither _ _ (and_false _ _ (ap is_minus (first_stays t e) ∙ no_minus t e))
-    (neither _ _ (and_false _ _ (ap is_not_of_decrement (first_stays t e) ∙ no_not t e)) (and_false _ _ (no_regexp t e)))))
+    or_false _ _ (or_from _ _ (and_right _ _ (ap is_plus (first_stays t e) ∙ no_plus t e))
+    (or_from _ _ (and_right _ _ (ap is_minus (first_stays t e) ∙ no_minus t e))
+    (or_from _ _ (and_right _ _ (ap is_not_of_decrement (first_stays t e) ∙ no_not t e)) (and_right _ _ (no_regexp t e)))))
 
 -- what is of one of the sorts is no hole
 pub no_hole : (t : Tree) (s : Sort) → is_sorted s ≡ true → sort_of t ≡ s → is_hole t ≡ false

@@ -1,6 +1,8 @@
 -- What a chain of expressions writes, and one of `else if`: what its links write on the way down, what stands below them, and what
 -- they write on the way back.
-use Rattle.std.proofs.Common.{◌≡◌, ◌+◌, ◌-◌, ◌*◌, ◌/◌, ◌<◌, ◌≤◌, ℕ, zero, suc, Bool, true, false, not, ◌||◌, List, Option, Some, codes, refl, sym, ap, subst, ◌∙◌, arith}
+use Rattle.std.proofs.Common.{◌≡◌, ◌+◌, ◌-◌, ◌*◌, ◌<◌, ◌≤◌, ℕ, zero, suc, Bool, true, false, not, ◌||◌, List, Option, Some, codes, refl, sym, ap, subst, ◌∙◌, arith}
+use Rattle.std.proofs.Math.Nat.{add-zero, add-suc, add-sub_of_le}
+use Rattle.std.proofs.Math.Numerals.{add-one}
 use base.Fml.{GName}
 use Rattle.base_token.specs.Operators.{operator_text}
 use Rattle.tree_spec.specs.Tree.{Tree, bin_expr, member_expr, call_expr, tagged_tpl, opt_chain_expr, opt_call, number_lit, if_stmt, absent, part_by}
@@ -32,7 +34,7 @@ use Rattle.print_pieces.proofs.Steps.{◌▸◌, idle, laid_as}
 use Rattle.tree_nodes.specs.Spines.{Chained, alternative, further_on, has_alternative, is_absent}
 use Rattle.tree_visit.specs.Spine.Chains.{Linked, base_left, below, is_base, is_link, left_part}
 use Rattle.tree_nodes.proofs.Spines.{chained_next, further_falls, further_next, further_smaller, none_chained, none_further}
-use Rattle.tree_visit.proofs.spine.Chains.{below_falls, below_next, callee_left, further, inner_falls, inner_links, left_falls, linked_next, literal_is_none, none_below, none_linked, none_more, one_link, one_more, outer_falls, outer_links, smaller, sum, top_falls}
+use Rattle.tree_visit.proofs.spine.Chains.{below_falls, below_next, callee_left, further, inner_falls, inner_links, left_falls, linked_next, none_below, none_linked, one_link, outer_falls, outer_links, smaller, top_falls}
 use Rattle.print_nodes.specs.Asks.{is_number}
 use Rattle.print_nodes.specs.Chains.{object_laid}
 use Rattle.print_nodes.specs.Spines.{base_left_laid, base_right_laid, before_laid, befores_laid, branch_laid, branches_laid, consequence_laid, else_laid, ends_laid, left_laid, lines_laid, right_laid, rights_laid, stand_at, stand_below}
@@ -173,13 +175,13 @@ spine look s (suc n) t a h = spine look s n t a h.0
 halves : (look : Look) (k m : ℕ) (t : Tree) (a : Asked)
     → lay (rights_laid look (k + m) t) a ≡ lay (rights_laid look k t) (lay (rights_laid look m (below k t)) a)
 unfolding rights_laid
-halves look k zero t a = ap (λ n. lay (rights_laid look n t) a) (none_more k)
-halves look k (suc m) t a = ap (λ n. lay (rights_laid look n t) a) (one_more k m) ∙ halves look k m t (lay (right_laid look (below (k + m) t)) a)
+halves look k zero t a = ap (λ n. lay (rights_laid look n t) a) (add-zero k)
+halves look k (suc m) t a = ap (λ n. lay (rights_laid look n t) a) (add-suc k m) ∙ halves look k m t (lay (right_laid look (below (k + m) t)) a)
     ∙ ap (λ x. lay (rights_laid look k t) (lay (rights_laid look m (below k t)) (lay (right_laid look x) a))) (further k m t)
 
 by_halves : (look : Look) (k n : ℕ) (t : Tree) (a : Asked) → k ≤ n
     → lay (rights_laid look n t) a ≡ lay (rights_laid look k t) (lay (rights_laid look (n - k) (below k t)) a)
-by_halves look k n t a h = ap (λ x. lay (rights_laid look x t) a) (sym (sum k n h)) ∙ halves look k (n - k) t a
+by_halves look k n t a h = ap (λ x. lay (rights_laid look x t) a) (sym (add-sub_of_le h)) ∙ halves look k (n - k) t a
 
 one_right : (look : Look) (t : Tree) (a : Asked) → lay (right_laid look t) a ≡ lay (rights_laid look 1 t) a
 unfolding rights_laid below
@@ -252,9 +254,6 @@ if_chain look s n t a h = if_spine look s n t a h
 goes_to : (span : Span) (test cons alt : Tree) → is_absent alt ≡ false → alternative (if_stmt span test cons alt) ≡ alt
 goes_to span test cons alt e = rw e refl
 
-next : (n : ℕ) → n + 1 ≡ suc n
-next n = omega (arith)
-
 one_less : (n : ℕ) → suc n - 1 ≡ n
 one_less n = omega (arith)
 
@@ -306,16 +305,6 @@ ifs_there (suc n) t z h = if_there t (first_if n t h)
 pub no_other : {A : Type 0} (n : ℕ) (top : Tree) → n ≡ 1 → Linked n top → is_link top ≡ false → A
 no_other n top e h z = no (sym z ∙ one_link top (subst (λ (k : ℕ). Linked k top) e h))
 
-pub no_link : {T : Type 0} (f : T → Tree) (k : ExprKindOf T) → ((x : BinExprOf T) → k ≡ ExprKind.Bin x → ⊥) → ((x : MemberExprOf T) → k ≡ ExprKind.Member x → ⊥) → ((x : CallExprOf T) → k ≡ ExprKind.Call x → ⊥)
-    → ((x : TaggedTplOf T) → k ≡ ExprKind.TaggedTpl x → ⊥) → ((x : OptChainExprOf T) → k ≡ ExprKind.OptChain x → ⊥) → is_link (view_expr_kind f k) ≡ false
-no_link f (ExprKind.Bin x) h m c t o = absurd (h x refl)
-no_link f (ExprKind.Member x) h m c t o = absurd (m x refl)
-no_link f (ExprKind.Call x) h m c t o = absurd (c x refl)
-no_link f (ExprKind.TaggedTpl x) h m c t o = absurd (t x refl)
-no_link f (ExprKind.OptChain x) h m c t o = absurd (o x refl)
-no_link f (ExprKind.Lit x) h m c t o = literal_is_none x
-no_link f _ h m c t o = refl
-
 -- a left part alone is smaller than with its link
 pub one_above : (n m : ℕ) → n + 1 ≡ m → n < m
 one_above n m h = omega (arith, h)
@@ -324,9 +313,6 @@ one_above n m h = omega (arith, h)
 pub alternative_is : {T : Type 0} (f : T → Tree) (branch : IfStmtOf T) (alt : Child T StmtTag) → branch.alt ≡ Some alt
     → part_by (λ x. f x.part.value) branch.alt ≡ f alt.part.value
 alternative_is f branch alt e = rw e refl
-
-pub half : (n : ℕ) → n / 2 ≤ n
-half n = omega (arith)
 
 -- ---- printing
 
@@ -367,8 +353,8 @@ module _ {S : Type 0} {tells : S → Type 0} {state : S → State} {failed : S �
       let on : left ≡ below (n + 1) top = is ∙ ap left_part i.1 ∙ sym (below_next n top) in
       let size : tree_size (below (n + 1) top) + 2 * (n + 1) ≤ tree_size top = smaller (n + 1) top linked in
       let less : tree_size left ≤ tree_size top = subst (λ (t : Tree). tree_size t ≤ tree_size top) (sym on) (omega (arith, size)) in
-      let stood : next_stands ≡ stand_at s (n + 1) top = below_stands ∙ ap stand_below i.1 ∙ sym (ap (λ (k : ℕ). stand_at s k top) (next n)) in
-      (rw (next n) (i.0 ▸ laid_as (ap (λ (q : Stand). before_laid q rest) i.3 ∙ ap (before_laid (stand_at s n top)) i.1) h), on, linked, stood, less)
+      let stood : next_stands ≡ stand_at s (n + 1) top = below_stands ∙ ap stand_below i.1 ∙ sym (ap (λ (k : ℕ). stand_at s k top) (add-one n)) in
+      (rw (add-one n) (i.0 ▸ laid_as (ap (λ (q : Stand). before_laid q rest) i.3 ∙ ap (before_laid (stand_at s n top)) i.1) h), on, linked, stood, less)
 
   -- what a link writes before its left part is printed
   pub before_printed : (s : Stand) (t is : Tree) {w v : S} {f g : Option EmitError} → t ≡ is
@@ -438,7 +424,7 @@ module _ {S : Type 0} {tells : S → Type 0} {state : S → State} {failed : S �
       → Prints {S = S} tells state failed loans (branch_laid look (further_on n t)) v g u e
       → Prints {S = S} tells state failed loans (branches_laid look (n + 1) t) w f u e
   unfolding branches_laid
-  branch_more look n t p q = rw (next n) (p ▸ q)
+  branch_more look n t p q = rw (add-one n) (p ▸ q)
 
   -- at first nothing is printed, and behind one `if` more so much more
   pub sets_out_on_ifs : (look : Look) (t : Tree) {w : S} {f : Option EmitError}
@@ -491,7 +477,7 @@ module _ {S : Type 0} {tells : S → Type 0} {state : S → State} {failed : S �
       → Prints {S = S} tells state failed loans (line look) v g u e
       → Prints {S = S} tells state failed loans (lines_laid look (n + 1)) w f u e
   unfolding lines_laid
-  line_more look n p q = rw (next n) (p ▸ q)
+  line_more look n p q = rw (add-one n) (p ▸ q)
 
 -- ---- what each function rests on: that what is printed is smaller, and still a chain
 pub ruleset at_the_top = (links_there, below_falls, left_falls, top_falls, last_link, last_left, last_stands)

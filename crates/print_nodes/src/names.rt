@@ -1,14 +1,11 @@
 //! Names.
-ghost use Rattle.std.specs.Prelude.{◌≡◌, if◌then◌else◌};
+ghost use Rattle.std.specs.Prelude.{◌≡◌};
 ghost use Rattle.tree_nodes.specs.View.{view_ident, view_binding_ident, view_ident_name, view_private_name};
-ghost use Rattle.print_layout_spec.specs.Looks.{text};
-ghost use Rattle.print_layout_spec.specs.Literals.{name_bytes, key_bytes};
 ghost use Rattle.print_layout_spec.specs.Layout.{is_key};
-ghost use Rattle.print_pieces.specs.Prints.{Prints};
 
 use crate::print::Print;
 use print_layout_spec::{Look, Stand};
-use print_pieces::literals::names::{print_identifier, print_key, print_name};
+use print_pieces::literals::names::{print_identifier, print_name, print_word};
 use print_pieces::{Printer, Text};
 use print_writers::WriteJs;
 use std::convert::AsStr;
@@ -37,26 +34,11 @@ fn is_key(stand: Stand) -> bool
     matches!(stand, Stand::Key)
 }
 
-/// Prints a word as a key or as a name.
-fn print_word<W: WriteJs>(p: &mut Printer<W>, look: Look, key: bool, word: &str)
-    ensures { Prints W.tells W.state W.failed_writes W.loans
-        (text (if key then key_bytes look.style word.now else name_bytes look.style word.now))
-        p.old.wr p.old.fault p.new.wr p.new.fault }
-{
-    if key {
-        print_key(p, look.style, word);
-    } else {
-        print_name(p, look.style, word);
-    }
-}
-
 impl Print for IdentName {
     ghost tree = { view_ident_name };
 
     fn print<W: WriteJs>(&self, p: &mut Printer<W>, look: Look, stand: Stand) {
-        p.commit();
-        p.start(self.span);
-        print_word(p, look, is_key(stand), self.sym.as_str());
+        print_word(p, look, self.span, is_key(stand), self.sym.as_str());
     }
 }
 

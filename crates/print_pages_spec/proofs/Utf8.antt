@@ -28,7 +28,7 @@ either : (b : Bool) (q r : Page) → IsUtf8Page q → IsUtf8Page r → IsUtf8Pag
 either true q r x y = x
 either false q r x y = y
 
-times_text : (n : ℕ) (xs : List ℕ) → IsUtf8 xs → IsUtf8 (times n xs)
+pub times_text : (n : ℕ) (xs : List ℕ) → IsUtf8 xs → IsUtf8 (times n xs)
 times_text zero xs u = IsUtf8-nil
 times_text (suc n) xs u = IsUtf8-append xs (times n xs) u (times_text n xs u)
 

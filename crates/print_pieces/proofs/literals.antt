@@ -1,3 +1,4 @@
 pub mod Split
 pub mod Parted
 pub mod Written
+pub mod Plain

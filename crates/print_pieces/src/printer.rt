@@ -1,6 +1,7 @@
 //! What prints: a writer, and how the text is to look.
 ghost use Rattle.std.specs.Prelude.{◌≡◌, if◌then◌else◌};
 ghost use Rattle.print_layout_spec.specs.Looks as looks;
+ghost use Rattle.print_layout_spec.specs.Looks.{named};
 ghost use Rattle.print_layout_spec.specs.Layout.{comma, comma_line};
 ghost use Rattle.print_pages_spec.specs.Pieces.{Deeper, Back, Mark};
 ghost use Rattle.print_pieces.specs.Prints.{Prints};
@@ -123,9 +124,40 @@ impl<W: WriteJs> Printer<W> {
     pub fn commit(&mut self)
         ensures { Prints W.tells W.state W.failed_writes W.loans looks.commit self.old.wr self.old.fault self.new.wr self.new.fault }
     {
-        if self.fault.is_none() {
-            self.fault = self.wr.commit_pending_semi().err();
+        if self.fault.is_some() {
+            return;
         }
+        match self.wr.commit_pending_semi() {
+            Ok(()) => {}
+            Err(fault) => self.fault = Some(fault),
+        }
+    }
+
+    /// Writes a name behind the semicolon that waits, and marks where it was read.
+    #[inline(always)]
+    pub fn name(&mut self, pos: BytePos, name: &str)
+        ensures { Prints W.tells W.state W.failed_writes W.loans (named pos name.now) self.old.wr self.old.fault self.new.wr self.new.fault }
+    {
+        if self.fault.is_some() {
+            return;
+        }
+        if self.wr.needs_marks() {
+            self.name_by_steps(pos, name);
+            return;
+        }
+        if !self.wr.put(name) {
+            self.name_by_steps(pos, name);
+        }
+    }
+
+    /// The same by way of the writer's steps.
+    #[inline(never)]
+    fn name_by_steps(&mut self, pos: BytePos, name: &str)
+        ensures { Prints W.tells W.state W.failed_writes W.loans (named pos name.now) self.old.wr self.old.fault self.new.wr self.new.fault }
+    {
+        self.commit();
+        self.mark(pos);
+        self.write(name);
     }
 
     /// Marks a position.

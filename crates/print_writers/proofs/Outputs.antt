@@ -1,7 +1,7 @@
 -- Bytes that are written a part at a time, to a writer that tells them.
-use Rattle.std.specs.Prelude.{true, false, length, Result, Ok, Err, OnErr}
-use Rattle.std.proofs.Common.{◌≡◌, ℕ, zero, suc, ◌+◌, ◌-◌, ◌<◌, List, [], ◌∷◌, ◌++◌, Option, None, Some, take, drop, length-take, refl, sym, ap, subst, append_assoc, append-nil, ◌∙◌, arith}
-use Rattle.std.proofs.lemmas.List.{take-append-drop}
+use Rattle.std.specs.Prelude.{true, false, Result, Ok, Err, OnErr}
+use Rattle.std.proofs.Common.{◌≡◌, ℕ, zero, suc, ◌+◌, ◌-◌, ◌<◌, List, [], ◌++◌, Option, None, Some, take, drop, length-take, refl, sym, ap, subst, append_assoc, append-nil, ◌∙◌, arith}
+use Rattle.std.proofs.lemmas.List.{take-append-drop, nil_from_length}
 use Rattle.std.proofs.Math.Seq.{take-add}
 use Rattle.std.specs.Option.{IsSome}
 use Rattle.std.specs.Io.KnownBytes.{Appends, Keeps}
@@ -38,12 +38,8 @@ gets_front a b xs ys zs f e = λ s.
 pub gets_part : (a b c : Option (List ℕ)) (bytes : List ℕ) (n : ℕ) → Gets a b (take n bytes) → Keeps b c → GetsFront a c bytes
 gets_part a b c bytes n f h = gets_front a c (take n bytes) (drop n bytes) bytes (gets_same a b c _ f h) (sym (take-append-drop n bytes))
 
-nothing : (l : List ℕ) → length l ≡ 0 → l ≡ []
-nothing [] e = refl
-nothing (x ∷ l) e = absurd (omega arith)
-
 take_none : (n : ℕ) (l : List ℕ) → n ≡ 0 → take n l ≡ []
-take_none n l e = nothing (take n l) (omega (arith, length-take n l))
+take_none n l e = nil_from_length (take n l) (omega (arith, length-take n l))
 
 pub gets_no_more : (a b c : Option (List ℕ)) (bytes xs : List ℕ) (n m : ℕ) → Gets a b (take n bytes) → m ≡ 0 → Appends b c (take m xs) → GetsFront a c bytes
 gets_no_more a b c bytes xs n m f e h =

@@ -1,12 +1,13 @@
 -- What the names of editions, of steps of indentation and of numbers stand for.
 use Rattle.std.proofs.Common.{◌≡◌, ◌∙◌, ◌<◌, ◌&&◌, ◌^◌, ℕ, Bool, true, false, List, [], ◌∷◌, refl, sym, ap, subst, length, Some, None, Result, Ok, Err}
-use Rattle.std.proofs.lemmas.Bool.{lt-ltb, ltb-true, eqb-true}
+use Rattle.std.proofs.lemmas.Bool.{lt-ltb, ltb-true, eqb-true, and_from, and_left, false_from_ne_true}
 use Rattle.std.specs.Prelude.{◌==◌, bytes_eq, nat_lt, slice_index, OkIff}
 use Rattle.std.specs.List.{list_all}
 use Rattle.std.specs.Char.{digit_value}
 use Rattle.std.specs.Result.{result_ok}
 use Rattle.std.specs.Str.Parse.{AllDigits, IsNumeral, ParsesUnsigned, digits_value, without_leading_plus}
 use Rattle.std.proofs.lemmas.Slice.Eq.{bytes_eq-Decides}
+use Rattle.std.proofs.Math.Bool.{and-false}
 use Rattle.clap.proofs.WalkLemmas.{both}
 use Rattle.run_command.specs.Values.{among, is_number, nesting_of}
 
@@ -15,16 +16,9 @@ abbrev pub Differs : {X : Type 0} → List (List ℕ × X) → List ℕ → Type
 Differs [] text = Unit {0}
 Differs (row ∷ rows) text = (text ≡ row.0 → ⊥) × Differs rows text
 
-different : (name text : List ℕ) → (text ≡ name → ⊥) → bytes_eq name text ≡ false
-different name text differs = go (bytes_eq name text) refl
-  where
-    go : (b : Bool) → bytes_eq name text ≡ b → bytes_eq name text ≡ false
-    go true e = absurd (differs (sym ((bytes_eq-Decides name text).0 e)))
-    go false e = e
-
 pub none_among : {X : Type 0} (rows : List (List ℕ × X)) (text : List ℕ) → Differs rows text → None ≡ among rows text
 none_among [] text differs = refl
-none_among (row ∷ rows) text differs = rw (different row.0 text differs.0) (none_among rows text differs.1)
+none_among (row ∷ rows) text differs = rw (false_from_ne_true (bytes_eq row.0 text) (λ e. differs.0 (sym ((bytes_eq-Decides row.0 text).0 e)))) (none_among rows text differs.1)
 
 -- ---- numbers
 
@@ -48,27 +42,17 @@ pub no_number : (text : List ℕ) → is_small text ≡ false → None ≡ nesti
 unfolding nesting_of
 no_number text e = rw e refl
 
-both_true : (a b : Bool) → a ≡ true → b ≡ true → (a && b) ≡ true
-both_true a b e f = rw (e, f) refl
-
-false_last : (a : Bool) → (a && false) ≡ false
-false_last true = refl
-false_last false = refl
-
-false_first : (a b : Bool) → a ≡ false → (a && b) ≡ false
-false_first a b e = rw e refl
-
 -- a text that begins with a plus is no number
 pub signed_is_none : (text : List ℕ) → (slice_index text 0 == 43) ≡ true → None ≡ nesting_of text
 signed_is_none [] e = cc
 signed_is_none (x ∷ text) e =
     let plus : x ≡ 43 = eqb-true x 43 e in
     let other : list_all (λ d. nat_lt (digit_value d) 10) (x ∷ text) ≡ false = rw plus refl in
-    no_number (x ∷ text) (false_first _ _ (ap (λ b. nat_lt 0 (length (x ∷ text)) && b) other ∙ false_last _))
+    no_number (x ∷ text) (and_left _ _ (ap (λ b. nat_lt 0 (length (x ∷ text)) && b) other ∙ and-false _))
 
 numeral_small : (text : List ℕ) → IsNumeral 10 text → digits_value 10 text < 2 ^ 32 → is_small text ≡ true
 numeral_small text numeral below =
-    both_true _ _ (both_true _ _ (lt-ltb _ _ numeral.0) (digits_back text numeral.1)) (lt-ltb _ _ below)
+    and_from _ _ (and_from _ _ (lt-ltb _ _ numeral.0) (digits_back text numeral.1)) (lt-ltb _ _ below)
 
 small_numeral : (text : List ℕ) → is_small text ≡ true → IsNumeral 10 text × (digits_value 10 text < 2 ^ 32)
 small_numeral text e =

@@ -1,11 +1,7 @@
 -- Bytes that are read a piece at a time.
-use Rattle.std.proofs.Common.{◌≡◌, ℕ, ◌+◌, ◌-◌, ◌<◌, ◌≤◌, min, List, [], ◌∷◌, ◌++◌, length, take, drop, sym, ap, subst, ◌∙◌, refl, arith, length-drop, length-append, length-take-le}
+use Rattle.std.proofs.Common.{◌≡◌, ℕ, ◌+◌, ◌-◌, ◌<◌, ◌≤◌, min, List, [], ◌++◌, length, take, drop, sym, ap, subst, ◌∙◌, arith, length-drop, length-append, length-take-le}
 use Rattle.std.proofs.Math.Seq.{take-take, take-append_seam}
-use Rattle.std.proofs.lemmas.List.{take-append-drop, drop-drop}
-
-nothing : (l : List ℕ) → length l ≡ 0 → l ≡ []
-nothing [] e = refl
-nothing (x ∷ l) e = absurd (omega arith)
+use Rattle.std.proofs.lemmas.List.{take-append-drop, drop-drop, nil_from_length}
 
 -- a piece of n bytes that was copied into a buffer is what came next
 pub piece_read : (items buf piece : List ℕ) (at n : ℕ) → at ≤ length items → n ≤ length items - at
@@ -22,4 +18,4 @@ piece_read items buf piece at n within fits copied =
 pub end_read : (items buf piece : List ℕ) (at n most : ℕ) → at ≤ length items → 1 ≤ most → n ≡ min (length items - at) (min (length buf) most)
     → length piece ≡ n → n ≡ 0 → 0 < length (piece ++ drop n buf) → drop (at + n) items ≡ []
 end_read items buf piece at n most within some is long none room =
-    nothing (drop (at + n) items) (omega (arith, length-drop (at + n) items, length-append piece (drop n buf), length-drop n buf))
+    nil_from_length (drop (at + n) items) (omega (arith, length-drop (at + n) items, length-append piece (drop n buf), length-drop n buf))

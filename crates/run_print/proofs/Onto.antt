@@ -8,6 +8,7 @@ use Rattle.print_writers.specs.Lines.{units, further, next_line, after_text}
 use Rattle.print_writers.specs.Pages.{Page, put, put_some, put_line, put_mark, deeper, shallower, indented, with_text, marked, begun, ended, end_line, times, moved, settled, waiting_for, record_here}
 use Rattle.print_writers.specs.States.{span_or_none}
 use Rattle.print_pages_spec.specs.Pieces.{Piece, Text, Brace, Blank, Line, Deeper, Back, Semicolon, Commit, Mark, resolved, shortened, behind, semicolon}
+use Rattle.print_pages_spec.proofs.Unmarked.{plain, plain_put, plain_line, plain_deeper, plain_shallower}
 
 -- what each step leaves to the page, pieces do
 module _ (change : Page → Page) (on_put : (span : Option Span) (bytes : List ℕ) (p : Page) → change (put span bytes p) ≡ put span bytes (change p))
@@ -134,47 +135,6 @@ module _ (front : List ℕ) where
 
 -- ---- no marks
 
--- a page that keeps no marks
-abbrev pub plain : Page → Page
-plain p = record p { marks = None }
-
-plain_if : (b : Bool) (p q : Page) → plain (if b then p else q) ≡ (if b then plain p else plain q)
-plain_if true p q = refl
-plain_if false p q = refl
-
-plain_indented : (p : Page) → plain (indented p) ≡ indented (plain p)
-unfolding indented
-plain_indented p = plain_if p.at_start _ p
-
-plain_begun : (span : Option Span) (p : Page) → plain (begun span p) ≡ begun span (plain p)
-unfolding marked
-plain_begun None p = refl
-plain_begun (Some span) p = refl
-
-plain_ended : (span : Option Span) (p : Page) → plain (ended span p) ≡ ended span (plain p)
-unfolding marked
-plain_ended None p = refl
-plain_ended (Some span) p = refl
-
-plain_with_text : (bytes : List ℕ) (p : Page) → plain (with_text bytes p) ≡ with_text bytes (plain p)
-unfolding with_text
-plain_with_text bytes p = refl
-
-plain_put_some : (span : Option Span) (bytes : List ℕ) (p : Page) → plain (put_some span bytes p) ≡ put_some span bytes (plain p)
-plain_put_some span bytes p =
-    plain_ended span (with_text bytes (begun span (indented p)))
-    ∙ ap (λ q. ended span q) (plain_with_text bytes (begun span (indented p))
-    ∙ ap (λ q. with_text bytes q) (plain_begun span (indented p)
-    ∙ ap (λ q. begun span q) (plain_indented p)))
-
-plain_put : (span : Option Span) (bytes : List ℕ) (p : Page) → plain (put span bytes p) ≡ put span bytes (plain p)
-unfolding put
-plain_put span bytes p = plain_if (length bytes == 0) p (put_some span bytes p) ∙ ap (λ q. if length bytes == 0 then plain p else q) (plain_put_some span bytes p)
-
-plain_line : (p : Page) → plain (put_line p) ≡ put_line (plain p)
-unfolding put_line end_line
-plain_line p = plain_if p.at_start _ _
-
 plain_choice : (b c : Bool) (p q r : Page) → plain (if b then p else (if c then q else r)) ≡ (if b then plain p else (if c then plain q else plain r))
 plain_choice true c p q r = refl
 plain_choice false true p q r = refl
@@ -183,14 +143,6 @@ plain_choice false false p q r = refl
 plain_mark : (pos : BytePos) (p : Page) → plain (put_mark pos p) ≡ put_mark pos (plain p)
 unfolding put_mark marked
 plain_mark pos p = plain_choice (pos.0 == 0) p.at_start p (record p { marks = option_map (waiting_for (Some pos)) p.marks }) (record p { marks = option_map (record_here pos) p.marks })
-
-plain_deeper : (p : Page) → plain (deeper p) ≡ deeper (plain p)
-unfolding deeper
-plain_deeper p = refl
-
-plain_shallower : (p : Page) → plain (shallower p) ≡ shallower (plain p)
-unfolding shallower
-plain_shallower p = refl
 
 pub plain_resolved : (xs : List Piece) (p : Page) → plain (resolved xs p) ≡ resolved xs (plain p)
 plain_resolved = through_resolved plain plain_put plain_line plain_mark plain_deeper plain_shallower

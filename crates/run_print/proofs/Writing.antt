@@ -1,16 +1,16 @@
 -- What printing does, from what its steps do.
-use Rattle.std.proofs.Common.{◌≡◌, ◌⊎◌, ℕ, zero, suc, IfSome, codes, Vec, Global, ◌<◌, ◌≤◌, Bool, true, false, if◌then◌else◌, List, [], ◌∷◌, ◌++◌, Option, None, Some, IsSome, is_some, is_ok, Result, Ok, Err, inl, inr, length, take, refl, sym, ap, subst, ◌∙◌, append-nil}
+use Rattle.std.proofs.Common.{◌≡◌, ◌⊎◌, ℕ, IfSome, codes, Vec, Global, ◌<◌, ◌≤◌, Bool, true, false, if◌then◌else◌, List, [], ◌∷◌, ◌++◌, Option, None, Some, IsSome, is_some, is_ok, Result, Ok, Err, inl, inr, length, take, refl, sym, ap, subst, ◌∙◌, append-nil}
 use Rattle.std.specs.Option.{option_map}
 use Rattle.std.specs.Borrow.{MutBor}
 use base.Fml.{GName}
 use Rattle.std.specs.Str.{IsUtf8}
-use Rattle.std.proofs.lemmas.Str.{IsUtf8-append, IsUtf8-nil}
+use Rattle.std.proofs.lemmas.Str.{IsUtf8-nil}
 use Rattle.std.specs.Io.KnownBytes.{Appends, Keeps, append_known}
 use Rattle.base_token.specs.declared.place.BytePos.{BytePos}
 use Rattle.base_token.specs.declared.place.LineCol.{LineCol}
 use Rattle.tree_spec.specs.Tree.{Tree}
 use Rattle.print_layout_spec.specs.Looks.{listed}
-use Rattle.print_writers.specs.Pages.{Marks, Page, IsFront, IsPast, told, times}
+use Rattle.print_writers.specs.Pages.{Marks, Page, IsFront, IsPast, told}
 use Rattle.print_writers.specs.States.{State, FaultFits, is_write}
 use Rattle.print_writers.specs.Views.{first_page, first_marks, js_behind, js_loans, js_page, js_state, js_tells, marks_loans, marks_of as marks_in, IsListOf}
 use Rattle.print_writers.specs.declared.js_writer.JsWriter.{JsWriter}
@@ -20,6 +20,8 @@ use Rattle.print_writers.specs.declared.fault.EmitError.TheVariants.{Write, Memo
 use Rattle.print_pages_spec.specs.Pieces.{resolved, shortened}
 use Rattle.print_pages_spec.specs.Utf8.{IsUtf8Page}
 use Rattle.print_pages_spec.proofs.Resolving.{calls_resolve, calls_shorten}
+use Rattle.print_pages_spec.proofs.Utf8.{times_text}
+use Rattle.print_pages_spec.proofs.Unmarked.{plain}
 use Rattle.ecma_codegen.specs.Emits.{Emits, emitted, MayRefuse}
 use Rattle.run_command.specs.Options.{is_format}
 use Rattle.run_command.specs.declared.options.Options.{Options}
@@ -33,7 +35,7 @@ use Rattle.print_blocks.proofs.Phases.{numbered}
 use Rattle.run_print.specs.Layouts.{indent_of, laid_of, line_end_of, marks_of, page_of, written_on, layout, positions_of, IsPastLast}
 use Rattle.run_print.specs.Prints.{Tells, IsDone, IsStopped}
 use Rattle.run_print.specs.Steps.{begun_page, Ends, LaysOut}
-use Rattle.run_print.proofs.Onto.{onto, onto_resolved, onto_shortened, plain, plain_resolved, plain_shortened}
+use Rattle.run_print.proofs.Onto.{onto, onto_resolved, onto_shortened, plain_resolved, plain_shortened}
 use Rattle.run_print.proofs.Parts.{first, all_out, some_out, front_behind}
 
 onto_written : (front : List ℕ) (o : Options) (t : Tree) (p : Page) → onto front (written_on o t p) ≡ written_on o t (onto front p)
@@ -302,10 +304,6 @@ pub not_both : {A E : Type 0} (r : Result A E) (e : E) → is_ok r ≡ true → 
 not_both (Ok x) e h p = absurd (cc)
 not_both (Err x) e h p = absurd (cc)
 
-utf8_times : (n : ℕ) (c : List ℕ) → IsUtf8 c → IsUtf8 (times n c)
-utf8_times zero c u = IsUtf8-nil
-utf8_times (suc n) c u = IsUtf8-append c (times n c) u (utf8_times n c u)
-
 blank_text : IsUtf8 (codes " ")
 unfolding lib.Utf8.encode
 blank_text = (codes " ", (refl, refl))
@@ -323,8 +321,8 @@ unfolding lib.Utf8.encode
 cr_lf_text = (codes "\r\n", (refl, refl))
 
 indent_text : (i : Indent) → IsUtf8 (indent_of i)
-indent_text (Blanks n) = utf8_times n (codes " ") blank_text
-indent_text (Tabs n) = utf8_times n (codes "\t") tab_text
+indent_text (Blanks n) = times_text n (codes " ") blank_text
+indent_text (Tabs n) = times_text n (codes "\t") tab_text
 
 line_end_text : (e : LineEnd) → IsUtf8 (line_end_of e)
 line_end_text Lf = lf_text

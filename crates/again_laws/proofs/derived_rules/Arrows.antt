@@ -19,6 +19,7 @@ use Rattle.print_layout_spec.specs.Looks.{Laid, back, blank, deeper, formats, no
 use Rattle.print_layout_spec.specs.declared.look.Look.{Look}
 use Rattle.print_layout_spec.specs.declared.look.Stand.{Stand}
 use Rattle.print_layout_spec.specs.declared.look.Stand.TheVariants.{Alone, Body as BodyState}
+use Rattle.print_layout_spec.proofs.Parameters.{several}
 use Rattle.again_laws.specs.Tokens.Ties.{is_held}
 use Rattle.again_laws.specs.Tokens.Spacings.{Spacing, Touching, is_broken}
 use Rattle.again_laws.specs.Tokens.Lexicon.{Lexicon}
@@ -59,10 +60,6 @@ from_pattern _ c ts r e h = absurd (true≢false (sym e))
 bound_item : (t : Tree) → is_bound_name t ≡ true → is_item_pat true t ≡ true
 bound_item (binding_ident s i) h = refl
 bound_item _ h = absurd (true≢false (sym h))
-
-one_of_more : (p q : Tree) (qs : Trees) → is_one_name (more p (more q qs)) ≡ false
-one_of_more (binding_ident s i) q qs = refl
-one_of_more _ q qs = refl
 
 one_bound : (p : Tree) → is_one_name (more p none) ≡ true → is_bound_name p ≡ true
 one_bound (binding_ident s i) h = refl
@@ -212,7 +209,7 @@ module _ (look : Look) (x : Lexicon look.style) where
       closed m (inr h) l = x.later m r0 h.1.2 l
   params_on (more p none) a c ts0 r0 (inr h) k false e b ts K peek q = parens_params (more p none) a c ts0 r0 h k b ts K q
   params_on (more p (more r rs)) a c ts0 r0 (inl h) k v e b ts K peek q = absurd h.0
-  params_on (more p (more r rs)) a c ts0 r0 (inr h) k true e b ts K peek q = absurd (true≢false (sym (e refl) ∙ one_of_more p r rs))
+  params_on (more p (more r rs)) a c ts0 r0 (inr h) k true e b ts K peek q = absurd (true≢false (sym (e refl) ∙ several p r rs))
   params_on (more p (more r rs)) a c ts0 r0 (inr h) k false e b ts K peek q = parens_params (more p (more r rs)) a c ts0 r0 h k b ts K q
 
   record HeadOut (i : Bool) (ps : Trees) (c : Code) (r0 : Input) (b : Spacing) (ts : Input) (K : Spacing → Input → Type 0) : Type 0 where

@@ -22,9 +22,8 @@ use Rattle.lex_literal.specs.Strings.{SpellsString}
 use Rattle.lex_literal.specs.Templates as templates
 use Rattle.lex_token.specs.declared.goal.LexicalGoal.TheVariants.{Div, RegExp, TemplateTail}
 use Rattle.lex_token.specs.Lexemes.{SpecLexeme, IsLexeme, string_lexeme, numeral_lexeme, template_lexeme, pattern_lexeme}
-use Rattle.lex_token.proofs.LexemeLemmas.{one_lexeme}
+use Rattle.lex_token.proofs.LexemeLemmas.{one_lexeme, same_ending}
 use Rattle.lex_token.proofs.SpelledLemmas.{encoded}
-use Rattle.lex_run_laws.proofs.Behind.{same_ending}
 use Rattle.print_spelling.specs.declared.style.Style.{Style}
 use Rattle.print_spelling.specs.String.CodePoints.{AreUnits}
 use Rattle.print_spelling.specs.String.Strings.{quoted, keeps_raw, string_text}

@@ -12,9 +12,10 @@ use lib.Utf8.{scalars, scalar}
 use Rattle.lex_pieces.specs.Runs.{Each}
 use Rattle.lex_literal.specs.declared.escape.Escape.{Escape}
 use Rattle.lex_literal.specs.declared.escape.Escape.TheVariants.{Continuation, Code, Legacy}
-use Rattle.lex_literal.specs.Escapes.{IsEscape, single, is_octal, is_low_octal, is_eight_or_nine}
+use Rattle.lex_literal.specs.Escapes.{IsEscape, single, is_eight_or_nine}
 use Rattle.lex_literal.specs.Units.{CodeFits, escape_units}
 use Rattle.lex_literal.specs.Strings.{Piece, Plain, Escaped, Pieces, piece_units}
+use Rattle.lex_literal.proofs.EscapeLemmas.{low_is_octal}
 use Rattle.print_spelling.proofs.FormLemmas.{one_unit, two_units, lead_low, trail_low}
 use Rattle.print_spelling.specs.String.CodePoints.{AreUnits}
 use Rattle.again_laws.specs.Leaf.Laws.{StringUnits}
@@ -31,9 +32,6 @@ code_small x h = grind (arith, nat_tests)
 
 nine_small : (n : ℕ) → is_eight_or_nine n ≡ true → n < 0x110000
 nine_small n h = grind (arith, nat_tests)
-
-low_octal : (a : ℕ) → is_low_octal a ≡ true → is_octal a ≡ true
-low_octal a h = grind (arith, nat_tests)
 
 each_digits : (r : ℕ) (cs : List ℕ) → Each (λ c. is_digit c r) cs → AllDigits r cs
 each_digits r [] h = tt
@@ -57,7 +55,7 @@ fits (Code n) m r (inr (inr (inr (inl a)))) s = as_small n _ a.6 (under _ (16 ^ 
 fits (Code n) m r (inr (inr (inr (inr a)))) s = as_small n _ a.4 (code_small (digits_value 16 a.0) (and_parts _ _ a.3).1)
 fits (Legacy n) m r (inl a) s = as_small n _ a.3 (under _ (8 ^ 1) (omega arith) (digits_value-lt 8 (a.0 ∷ []) (each_digits 8 (a.0 ∷ []) (a.2, tt))))
 fits (Legacy n) m r (inr (inl a)) s = as_small n _ a.4 (under _ (8 ^ 2) (omega arith) (digits_value-lt 8 (a.0 ∷ a.1 ∷ []) (each_digits 8 (a.0 ∷ a.1 ∷ []) a.3)))
-fits (Legacy n) m r (inr (inr (inl a))) s = as_small n _ a.6 (under _ (8 ^ 3) (omega arith) (digits_value-lt 8 (a.0 ∷ a.1 ∷ a.2 ∷ []) (each_digits 8 (a.0 ∷ a.1 ∷ a.2 ∷ []) (low_octal a.0 a.4, a.5))))
+fits (Legacy n) m r (inr (inr (inl a))) s = as_small n _ a.6 (under _ (8 ^ 3) (omega arith) (digits_value-lt 8 (a.0 ∷ a.1 ∷ a.2 ∷ []) (each_digits 8 (a.0 ∷ a.1 ∷ a.2 ∷ []) (low_is_octal a.0 a.4, a.5))))
 fits (Legacy n) m r (inr (inr (inr a))) s = nine_small n a.1
 
 escape_left : (e : Escape) (m r : List ℕ) → IsEscape e m r → scalars m ≡ true → scalars r ≡ true

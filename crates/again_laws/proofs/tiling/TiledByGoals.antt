@@ -20,12 +20,12 @@ use Rattle.lex_token.specs.Lexemes.{SpecLexeme, IsLexeme, IsOutside, IsEnd, nume
 use Rattle.lex_literal.specs.Numbers.{Meaning, Number, BigInt}
 use Rattle.lex_token.specs.Sorts.{is_slash}
 use Rattle.lex_token.proofs.LexemeLemmas.{one_lexeme}
-use Rattle.lex_run_laws.proofs.Room.{characters_kind}
 use Rattle.lex_run_laws.proofs.Marks.{holds_all, among_holds}
 use Rattle.grammar_spec.specs.Tokens.Input.{PlacedToken, usual}
 use Rattle.grammar_laws.specs.Slash.TemplateLaws.{Region, Outside, Inside, Behind, Nowhere, after, fits, over}
 use Rattle.grammar_laws.proofs.slash.Fits.{not_lost, fits_on}
 use Rattle.lex_pieces.specs.Places.{bytes}
+use Rattle.lex_step_laws.proofs.Bounds.{characters_kind}
 use Rattle.grammar_text_spec.specs.Tiled.{goal_at, whole, IsBefore, IsTile, AreTiles, AfterHashbang}
 use Rattle.again_laws.proofs.tokens.Ascii.{ascii}
 use Rattle.again_laws.proofs.tiling.Gaps.{are_skipped}

@@ -16,7 +16,7 @@ use Rattle.lex_literal.specs.Templates as templates
 use Rattle.lex_token.specs.declared.goal.LexicalGoal.{LexicalGoal}
 use Rattle.lex_token.specs.declared.goal.LexicalGoal.TheVariants.{Div, RegExp, TemplateTail, TemplateEnd}
 use Rattle.lex_token.specs.Lexemes.{SpecLexeme, IsLexeme, IsOutside}
-use Rattle.lex_run_laws.proofs.Behind.{same_ending}
+use Rattle.lex_token.proofs.LexemeLemmas.{same_ending}
 use Rattle.grammar_spec.specs.Tokens.Input.{PlacedToken, template_goal}
 use Rattle.grammar_text_spec.specs.Tiled.{goal_at, whole, IsBeforeBy, AreTiles, AfterHashbang}
 use Rattle.again_laws.specs.Tokens.Means.{Known}

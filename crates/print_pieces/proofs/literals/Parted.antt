@@ -10,7 +10,7 @@ use Rattle.std.proofs.Common.{take, arith, get_or}
 use Rattle.std.specs.Str.{chars}
 use Rattle.std.proofs.lemmas.Str.{IsUtf8-take, IsCharBoundary-at_seam}
 use Rattle.std.proofs.Math.Seq.{take-append_seam}
-use Rattle.print_pieces.specs.Literals.Parts.{Leaves}
+use Rattle.print_pieces.specs.Literals.Parts.{Leaves, held_back}
 use Rattle.print_pieces.proofs.literals.Split.{in_two_by, no_return, no_line_feed}
 
 -- what there is to write, in two texts
@@ -20,7 +20,7 @@ unfolding ask
 asked_by one other h a true e = rw e refl
 asked_by one other h a false e = rw e (ap (λ (s : State). record a { state = s; stops = false }) (h a.state))
 
-asked_in_two : (one other : List ℕ) → ((s : State) → states.text None (one ++ other) s ≡ states.text None other (states.text None one s))
+pub asked_in_two : (one other : List ℕ) → ((s : State) → states.text None (one ++ other) s ≡ states.text None other (states.text None one s))
     → (a : Asked) → lay (text (one ++ other)) a ≡ lay (text other) (lay (text one) a)
 asked_in_two one other h a = asked_by one other h a a.stops refl
 
@@ -89,6 +89,17 @@ module _ {S : Type 0} {tells : S → Type 0} {state : S → State} {failed : S �
   pub leaves_as : {front other back : List ℕ} {w v : S} {f g : Option EmitError} → front ≡ other
       → Leaves {S = S} tells state failed loans front back w f v g → Leaves {S = S} tells state failed loans other back w f v g
   leaves_as {back = back} {w = w} {v = v} {f = f} {g = g} e h = subst (λ (l : List ℕ). Leaves {S = S} tells state failed loans l back w f v g) e h
+
+  -- three parts were printed one behind the other
+  pub three_parts : (first second third : List ℕ) (held more last : Bool) {w v x y z : S} {f g e h k : Option EmitError}
+      → Leaves {S = S} tells state failed loans first (held_back held) w f v g → Leaves {S = S} tells state failed loans (held_back held ++ second) (held_back more) v g x e
+      → Leaves {S = S} tells state failed loans (held_back more ++ third) (held_back last) x e y h → Prints {S = S} tells state failed loans (text (held_back last)) y h z k
+      → Prints {S = S} tells state failed loans (text (first ++ (second ++ third))) w f z k
+  three_parts first second third held more last a b c d =
+      ends (first ++ (second ++ third)) (held_back last)
+      (then_leaves (with_more first (held_back held) (second ++ third) a)
+      (then_leaves (leaves_as (append_assoc (held_back held) second third) (with_more (held_back held ++ second) (held_back more) third b)) c))
+      d
 
 -- ---- the texts of a part
 

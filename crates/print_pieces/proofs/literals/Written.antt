@@ -1,6 +1,7 @@
 -- Which text of a literal is written.
-use Rattle.std.proofs.Common.{◌≡◌, ℕ, Bool, true, false, if◌then◌else◌, List, [], ◌∷◌, ◌++◌, Option, Some, None, IsUtf8, append-nil, refl, sym, ap, ◌∙◌}
-use Rattle.std.specs.Prelude.{◌&&◌, nat_lt, encode_utf8_all}
+use Rattle.std.proofs.lemmas.Bool.Decides.{nat_tests}
+use Rattle.std.proofs.Common.{◌≡◌, ℕ, Bool, true, false, if◌then◌else◌, List, [], ◌∷◌, ◌++◌, Option, Some, None, IsUtf8, append-nil, refl, sym, ap, ◌∙◌, length, arith}
+use Rattle.std.specs.Prelude.{◌&&◌, ◌==◌, nat_lt, encode_utf8_all}
 use Rattle.std.specs.List.{list_any}
 use Rattle.std.specs.Str.{chars}
 use Rattle.std.proofs.lemmas.Str.{encodes-chars}
@@ -13,7 +14,12 @@ use Rattle.print_spelling.specs.declared.form.Form.{Form}
 use Rattle.print_spelling.specs.declared.form.Form.TheVariants.{Bare, Four, FourLower, Braced}
 use Rattle.print_spelling.specs.Forms.{written}
 use Rattle.print_spelling.specs.String.Names.{name_chars, name_text, is_latin}
-use Rattle.print_layout_spec.specs.Literals.{number_bytes, big_bytes, name_bytes, key_bytes}
+use Rattle.print_spelling.specs.declared.number.text.NumberText.{NumberText}
+use Rattle.print_spelling.specs.Number.NumberTexts.{joined}
+use Rattle.base_token.specs.declared.place.Span.{Span}
+use Rattle.print_layout_spec.specs.declared.look.Look.{Look}
+use Rattle.print_layout_spec.specs.Looks.{◌·◌, text, commit, start}
+use Rattle.print_layout_spec.specs.Literals.{number_bytes, big_bytes, name_bytes, key_bytes, name, key_word}
 
 -- a string as it was read, and one in quotes
 pub kept : (style : Style) (units raw : List ℕ) {b : Bool} → IsUtf8 raw → b ≡ keeps_raw style units (chars raw) → b ≡ true
@@ -49,6 +55,18 @@ pub big_read : (style : Style) (radix : ℕ) (digits : List ℕ) (raw : Option (
     → formatted_big style radix digits o ≡ big_bytes style radix digits raw
 big_read style radix digits raw e = ap (formatted_big style radix digits) e ∙ big_with style radix digits raw
 
+pub number_minified : (style : Style) (v : SpecNumber) (raw : Option (List ℕ)) → style.minify ≡ true → minified v ≡ number_bytes style v raw
+number_minified style v raw e = sym (ap (λ (b : Bool). if b then minified v else formatted style v raw) e)
+
+-- three texts of which the last two are empty
+no_bytes : (l : List ℕ) {b : Bool} → b ≡ (length l == 0) → b ≡ true → [] ≡ l
+no_bytes [] e h = refl
+no_bytes (x ∷ xs) e h = let z : (length (x ∷ xs) == 0) ≡ true = sym e ∙ h in absurd (grind (arith, nat_tests))
+
+pub first_alone : (t : NumberText) {b d : Bool} → b ≡ (length t.second.now == 0) → b ≡ true → d ≡ (length t.third.now == 0) → d ≡ true → t.first.now ≡ joined t
+first_alone t e h f k =
+    sym (append-nil t.first.now) ∙ ap (λ (l : List ℕ). t.first.now ++ l) (ap (λ (l : List ℕ). [] ++ l) (no_bytes t.third.now f k) ∙ ap (λ (l : List ℕ). l ++ t.third.now) (no_bytes t.second.now e h))
+
 -- a number before a point
 pub with_point : (bytes : List ℕ) {text : List ℕ} {b : Bool} → text ≡ bytes → b ≡ takes_point bytes → b ≡ true → text ++ 46 ∷ [] ≡ before_member bytes
 with_point bytes t e h = ap (λ (l : List ℕ). l ++ 46 ∷ []) t ∙ ap (λ (k : Bool). if k then bytes ++ 46 ∷ [] else bytes) (sym h ∙ e)
@@ -77,3 +95,18 @@ key_bare style word u e = name_bare style word u e ∙ ap encode_utf8_all (sym (
     unquoted : (escapes latin : Bool) → escapes ≡ false
         → (if escapes && latin then 34 ∷ name_chars style true (chars word) (34 ∷ []) else name_text style (chars word) []) ≡ name_text style (chars word) []
     unquoted escapes latin e = ap (λ (b : Bool). if b && latin then 34 ∷ name_chars style true (chars word) (34 ∷ []) else name_text style (chars word) []) e
+
+-- ---- a word as a key or as a name
+
+pub as_key : (look : Look) (span : Span) (key : Bool) (word : List ℕ) → key ≡ true
+    → commit · start span · text (key_bytes look.style word) ≡ (if key then key_word look span word else name look span word)
+as_key look span key word e = ap (λ (b : Bool). if b then key_word look span word else name look span word) (sym e)
+
+pub as_name : (look : Look) (span : Span) (key : Bool) (word : List ℕ) → key ≡ false
+    → commit · start span · text (name_bytes look.style word) ≡ (if key then key_word look span word else name look span word)
+as_name look span key word e = ap (λ (b : Bool). if b then key_word look span word else name look span word) (sym e)
+
+pub word_bare : (look : Look) (span : Span) (key : Bool) (word : List ℕ) → IsUtf8 word → look.style.ascii_only ≡ false
+    → commit · start span · text word ≡ (if key then key_word look span word else name look span word)
+word_bare look span true word u e = ap (λ (l : List ℕ). commit · start span · text l) (key_bare look.style word u e)
+word_bare look span false word u e = ap (λ (l : List ℕ). commit · start span · text l) (name_bare look.style word u e)

@@ -1,7 +1,8 @@
 //! Names and keys.
-ghost use Rattle.std.specs.Prelude.{◌≡◌};
+ghost use Rattle.std.specs.Prelude.{◌≡◌, if◌then◌else◌};
 ghost use Rattle.print_layout_spec.specs.Looks as looks;
-ghost use Rattle.print_layout_spec.specs.Literals.{name_bytes, key_bytes, identifier};
+ghost use Rattle.print_layout_spec.specs.Literals as literals;
+ghost use Rattle.print_layout_spec.specs.Literals.{name_bytes, key_bytes, identifier, key_word};
 ghost use Rattle.print_pieces.specs.Prints.{Prints};
 
 use crate::Printer;
@@ -39,6 +40,18 @@ pub fn print_name<W: WriteJs>(p: &mut Printer<W>, style: Style, name: &str)
 pub fn print_identifier<W: WriteJs>(p: &mut Printer<W>, look: Look, span: Span, name: &str)
     ensures { Prints W.tells W.state W.failed_writes W.loans (identifier look span name.now) p.old.wr p.old.fault p.new.wr p.new.fault }
 {
+    if look.style.ascii_only {
+        print_identifier_by_parts(p, look, span, name);
+    } else {
+        p.name(span.lo, name);
+    }
+}
+
+/// The same of a name that may take escapes.
+#[inline(never)]
+fn print_identifier_by_parts<W: WriteJs>(p: &mut Printer<W>, look: Look, span: Span, name: &str)
+    ensures { Prints W.tells W.state W.failed_writes W.loans (identifier look span name.now) p.old.wr p.old.fault p.new.wr p.new.fault }
+{
     p.commit();
     p.start(span);
     print_name(p, look.style, name);
@@ -52,5 +65,36 @@ pub fn print_key<W: WriteJs>(p: &mut Printer<W>, style: Style, word: &str)
         print_name_parts(p, NameText::key(word, style));
     } else {
         p.write(word);
+    }
+}
+
+/// Prints a word, as a key or as a name, and marks where it was read.
+pub fn print_word<W: WriteJs>(p: &mut Printer<W>, look: Look, span: Span, key: bool, word: &str)
+    ensures { Prints W.tells W.state W.failed_writes W.loans (if key then key_word look span word.now else literals.name look span word.now) p.old.wr p.old.fault p.new.wr p.new.fault }
+{
+    if look.style.ascii_only {
+        print_word_by_parts(p, look, span, key, word);
+    } else {
+        p.name(span.lo, word);
+    }
+}
+
+/// The same of a word that may take escapes.
+#[inline(never)]
+fn print_word_by_parts<W: WriteJs>(
+    p: &mut Printer<W>,
+    look: Look,
+    span: Span,
+    key: bool,
+    word: &str,
+)
+    ensures { Prints W.tells W.state W.failed_writes W.loans (if key then key_word look span word.now else literals.name look span word.now) p.old.wr p.old.fault p.new.wr p.new.fault }
+{
+    p.commit();
+    p.start(span);
+    if key {
+        print_key(p, look.style, word);
+    } else {
+        print_name(p, look.style, word);
     }
 }

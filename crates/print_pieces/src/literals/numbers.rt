@@ -2,6 +2,7 @@
 ghost use Rattle.std.specs.Prelude.{◌≡◌, ◌++◌, [], ◌∷◌, None, if◌then◌else◌, option_map};
 ghost use Rattle.lex_literal.specs.Standing as standing;
 ghost use Rattle.print_spelling.specs.Number.Numbers as numbers;
+ghost use Rattle.print_spelling.specs.Number.NumberTexts.{joined};
 ghost use Rattle.print_layout_spec.specs.Looks as looks;
 ghost use Rattle.print_layout_spec.specs.Literals as literals;
 ghost use Rattle.print_pieces.specs.Prints.{Prints};
@@ -12,7 +13,9 @@ use base_number::NumValue;
 use base_token::Span;
 use print_layout_spec::Look;
 use print_spelling::Style;
-use print_spelling::number::{FormattedText, formatted, formatted_big_int, takes_point};
+use print_spelling::number::{
+    FormattedText, NumberText, formatted, formatted_big_int, minified, takes_point,
+};
 use print_writers::WriteJs;
 
 /// Prints what there is to come of a number.
@@ -48,6 +51,24 @@ fn read_text<'a>(style: Style, raw: Option<&'a str>) -> Option<&'a str>
         return None;
     }
     raw
+}
+
+/// Prints three texts as one: at once, where the last two are empty.
+fn print_three<W: WriteJs>(p: &mut Printer<W>, text: NumberText<'_>)
+    ensures { Prints W.tells W.state W.failed_writes W.loans (looks.text (joined text.entry)) p.old.wr p.old.fault p.new.wr p.new.fault }
+{
+    let no_second = text.second.is_empty();
+    let no_third = text.third.is_empty();
+    if no_second {
+        if no_third {
+            p.write(text.first);
+            return;
+        }
+    }
+    let first = print_part(p, false, text.first);
+    let second = print_part(p, first, text.second);
+    let third = print_part(p, second, text.third);
+    print_held(p, third);
 }
 
 /// The text of a number, by its value and its text as it was read, if it was.
@@ -89,7 +110,24 @@ pub fn print_number<W: WriteJs>(
 {
     p.commit();
     p.start(span);
-    print_number_parts(p, number_text(look.style, value, raw));
+    print_number_text(p, look.style, value, raw);
+}
+
+/// Prints the text of a number.
+fn print_number_text<W: WriteJs>(
+    p: &mut Printer<W>,
+    style: Style,
+    value: &NumValue,
+    raw: Option<&str>,
+)
+    ensures { Prints W.tells W.state W.failed_writes W.loans
+        (looks.text (literals.number_bytes style value.now (option_map (λ t. t.now) raw.entry))) p.old.wr p.old.fault p.new.wr p.new.fault }
+{
+    if style.minify {
+        print_three(p, minified(value));
+    } else {
+        print_number_parts(p, number_text(style, value, raw));
+    }
 }
 
 /// Prints the text of a number before the point of a member.

@@ -68,5 +68,9 @@ pub fn print_part<W: WriteJs>(p: &mut Printer<W>, held: bool, part: &str) -> boo
 pub fn print_held<W: WriteJs>(p: &mut Printer<W>, held: bool)
     ensures { Prints W.tells W.state W.failed_writes W.loans (looks.text (held_back held)) p.old.wr p.old.fault p.new.wr p.new.fault }
 {
-    p.write(if held { "\r" } else { "" });
+    if held {
+        p.write("\r");
+    } else {
+        p.commit();
+    }
 }

@@ -1,7 +1,9 @@
 //! Strings.
-ghost use Rattle.std.specs.Prelude.{◌≡◌, [], Some, codes, bytes_eq, encode_utf8_all, option_map};
+ghost use Rattle.std.specs.Prelude.{◌≡◌, ◌++◌, ◌∷◌, [], true, Some, IfSome, codes, bytes_eq, encode_utf8_all, option_map};
 ghost use Rattle.std.specs.List.{list_any};
 ghost use Rattle.std.specs.Str.{chars};
+ghost use Rattle.lex_pieces.specs.Runs.{Each};
+ghost use Rattle.print_spelling.specs.String.QuotedTexts.{is_plain_unit};
 ghost use Rattle.print_spelling.specs.String.Strings.{is_backslash, quoted, string_text};
 ghost use Rattle.print_layout_spec.specs.Looks as looks;
 ghost use Rattle.print_layout_spec.specs.Literals as literals;
@@ -42,8 +44,70 @@ fn print_read<W: WriteJs>(p: &mut Printer<W>, style: Style, units: &[u16], raw: 
     if keeps_raw(style, units, raw) {
         p.write(raw);
     } else {
-        print_quoted(p, style, units);
+        print_spelled(p, style, units, raw);
     }
+}
+
+/// Prints units in quotes: by the text that was read, where each stands there for itself.
+fn print_spelled<W: WriteJs>(p: &mut Printer<W>, style: Style, units: &[u16], raw: &str)
+    ensures { Prints W.tells W.state W.failed_writes W.loans (looks.text (encode_utf8_all (quoted style units.now []))) p.old.wr p.old.fault p.new.wr p.new.fault }
+{
+    match plain_text(style, units, raw) {
+        Some(text) => print_in_marks(p, text),
+        None => print_quoted(p, style, units),
+    }
+}
+
+/// Prints a text in quotation marks.
+fn print_in_marks<W: WriteJs>(p: &mut Printer<W>, text: &str)
+    ensures { Prints W.tells W.state W.failed_writes W.loans (looks.text (34 ∷ (text.now ++ 34 ∷ []))) p.old.wr p.old.fault p.new.wr p.new.fault }
+{
+    p.write("\"");
+    p.write(text);
+    p.write("\"");
+}
+
+/// What stands between the quotes of a text, where that is these units and each of them stands for itself in each string.
+fn plain_text<'a>(style: Style, units: &[u16], raw: &'a str) -> Option<&'a str>
+    ensures { IfSome result (λ text. (text.now ≡ units.now) × Each (is_plain_unit style) units.now) }
+{
+    if raw.len() < 2 {
+        return None;
+    }
+    let text = raw.get(1..raw.len() - 1)?;
+    if are_plain(style, units, text.as_bytes()) {
+        Some(text)
+    } else {
+        None
+    }
+}
+
+/// Whether the bytes are these units and each of them stands for itself in each string.
+fn are_plain(style: Style, units: &[u16], bytes: &[u8]) -> bool
+    ensures { result ≡ true → (bytes.now ≡ units.now) × Each (is_plain_unit style) units.now }
+{
+    let mut units = units;
+    let mut bytes = bytes;
+    'units: while let [unit, units_behind @ ..] = units {
+        let [byte, bytes_behind @ ..] = bytes else {
+            return false;
+        };
+        if u16::from(*byte) != *unit || !is_plain(style, *unit) {
+            return false;
+        }
+        units = units_behind;
+        bytes = bytes_behind;
+    }
+    bytes.is_empty()
+}
+
+/// Whether a unit stands for itself in each string, whatever stands round it.
+fn is_plain(style: Style, unit: u16) -> bool
+    ensures { result ≡ is_plain_unit style unit }
+{
+    matches!(unit, 0x20..=0x7E)
+        && !matches!(unit, 34 | 39 | 92)
+        && !(style.inline_script && matches!(unit, 45 | 47 | 60 | 62))
 }
 
 /// Prints the text of a string.

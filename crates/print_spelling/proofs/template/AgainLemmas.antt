@@ -6,6 +6,7 @@ use Rattle.std.proofs.lemmas.Bool.{cases_Bool, eqb-true}
 use Rattle.lex_pieces.specs.Runs.{Each}
 use Rattle.lex_literal.specs.Escapes.{begins, is_line_feed}
 use Rattle.lex_literal.specs.Templates.{line_feeds}
+use Rattle.lex_literal.proofs.RawLemmas.{line_feeds_same}
 use Rattle.print_spelling.specs.declared.style.Style.{Style}
 use Rattle.print_spelling.specs.declared.template.part.Part.{Part}
 use Rattle.print_spelling.specs.Template.Again.{TemplateAgain, WrittenAgain}
@@ -57,15 +58,11 @@ template_again style other raw m k =
     (ap (λ b. if b then line_feeds raw ++ [] else parts_text style false (parts zero (line_feeds raw)) []) k ∙ append-nil (line_feeds raw))
     ∙ fed_same other raw m
 
--- a text without CR stays
-fed_stays : (cs : List ℕ) → Each is_other cs → line_feeds cs ≡ cs
-fed_stays cs h = ap line_feeds (sym (append-nil cs)) ∙ fed_run cs [] h ∙ append-nil cs
-
 -- what is written part by part
 parts_again : (style : Style) (ps : List Part) (m : List ℕ) → AreTwice style ps → template_text style (parts_text style false ps []) m ≡ parts_text style false ps m
 parts_again style ps m t =
     ap (λ l. if keeps_raw style (parts_text style false ps []) then l ++ m else parts_text style false (parts zero l) m)
-    (fed_stays (parts_text style false ps []) (t.other false))
+    (line_feeds_same (parts_text style false ps []) (t.other false))
     ∙ either (keeps_raw style (parts_text style false ps [])) _ _ (parts_text style false ps m) (sym (parts_text_more style false ps m)) (t.text false m)
   where
     either : (b : Bool) (x y z : List ℕ) → x ≡ z → y ≡ z → (if b then x else y) ≡ z

@@ -1,4 +1,5 @@
 use Rattle.std.proofs.Common.{◌-◌, ◌/◌, rules, sym, ap, ◌∙◌}
+use Rattle.std.proofs.Math.Nat.{div-le_self}
 use Rattle.base_token.specs.OperatorKinds.{binary_op_kind}
 use Rattle.tree_nodes.specs.Placed.{inner}
 use Rattle.tree_spec.specs.Tree.{opt_chain_expr}
@@ -9,13 +10,14 @@ use Rattle.tree_nodes.specs.declared.expressions.TplOf.{TplOf}
 use Rattle.tree_nodes.specs.declared.expressions.ExprKindOf.TheVariants as ExprKind
 use Rattle.tree_visit.specs.Spine.Chains.{is_link}
 use Rattle.tree_visit.proofs.spine.Weights.{operand_falls, name_falls, arguments_fall, template_falls, chain_name_falls, chain_arguments_fall}
+use Rattle.tree_visit.proofs.spine.Chains.{no_link}
 use Rattle.print_gaps.specs.Edges.{gap_before}
 use Rattle.print_layout_spec.specs.declared.look.Stand.TheVariants.{Alone, Tagged}
 use Rattle.print_layout_spec.specs.Looks.{◌·◌, end}
 use Rattle.print_layout_spec.specs.Layout.{laid, closing, is_block}
 use Rattle.print_pieces.proofs.Steps.{laid_as}
 use Rattle.print_nodes.specs.Spines.{left_laid, rights_laid}
-use Rattle.print_nodes.proofs.Spines.{alternative_is, behind_no_link, behind_none, chain_printed, goes_down, goes_on_to_next, half, halves_printed, ifs_printed, left_as, link_printed, no_link, no_other, none_printed, one_above, operand_printed, sets_out, sets_out_on_ifs}
+use Rattle.print_nodes.proofs.Spines.{alternative_is, behind_no_link, behind_none, chain_printed, goes_down, goes_on_to_next, halves_printed, ifs_printed, left_as, link_printed, no_other, none_printed, one_above, operand_printed, sets_out, sets_out_on_ifs}
 use Rattle.print_nodes.proofs.knot.+print.Goals as goal
 
 -- src/knot.rt
@@ -153,7 +155,7 @@ print_rights-returns-in_default-kind g t c = no_other c.args.links c.args.top.no
 
 -- src/knot.rt
 pub print_rights-returns-in_default : goal.print_rights-returns-in_default
-print_rights-returns-in_default g t c = halves_printed c.args.look (c.args.links / 2) c.args.links c.args.top.now (half c.args.links)
+print_rights-returns-in_default g t c = halves_printed c.args.look (c.args.links / 2) c.args.links c.args.top.now (div-le_self c.args.links 2)
     (laid_as (ap (rights_laid c.args.look (c.args.links - c.args.links / 2)) c.below.ensures) c.print_rights.ensures)
     c.print_rights-in_default.ensures
 

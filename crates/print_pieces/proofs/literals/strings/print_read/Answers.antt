@@ -8,4 +8,4 @@ pub returns-then-keeps_raw : goal.returns-then-keeps_raw
 returns-then-keeps_raw g c = laid_as (ap text (kept c.args.style c.args.units.now c.args.raw.now c.utf8.raw c.keeps_raw.ensures c.if-keeps_raw.true)) c.write.ensures
 
 pub returns-else-keeps_raw : goal.returns-else-keeps_raw
-returns-else-keeps_raw g c = laid_as (ap text (not_kept c.args.style c.args.units.now c.args.raw.now c.keeps_raw.ensures c.if-keeps_raw.false)) c.print_quoted.ensures
+returns-else-keeps_raw g c = laid_as (ap text (not_kept c.args.style c.args.units.now c.args.raw.now c.keeps_raw.ensures c.if-keeps_raw.false)) c.print_spelled.ensures

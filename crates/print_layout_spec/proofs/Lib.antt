@@ -1,0 +1,2 @@
+-- Lemmas of the layout that several crates need.
+pub mod Parameters
