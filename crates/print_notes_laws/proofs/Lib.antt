@@ -1,0 +1,5 @@
+pub mod Texts
+pub mod Spaces
+pub mod Places
+pub mod Standing
+pub mod Characters

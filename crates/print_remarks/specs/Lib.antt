@@ -1,0 +1,3 @@
+-- The comments of a gap: read these in order.
+pub mod Found
+pub mod Views
