@@ -177,6 +177,33 @@ fn fault_of(alloc: Global, error: &Error) -> AskingFault {
     }
 }
 
+/// What the words that clap took ask for.
+fn asked_in(alloc: Global, matches: &ArgMatches<'_>) -> Result<Asked, AllocError> {
+    match matches.subcommand() {
+        Some((name, inner)) => asked_of(alloc, task_of(name), inner),
+        None => asked_of(alloc, Task::Read, matches),
+    }
+}
+
+/// What is told of words that lack something.
+fn refusal(alloc: Global, what: &str) -> AskingFault {
+    match format!(in alloc; "error: {what}\n\nFor more information, try '--help'.\n") {
+        Ok(text) => AskingFault::Refused(text),
+        Err(_) => AskingFault::Memory,
+    }
+}
+
+/// What the words that clap took ask for, where they lack nothing.
+fn whole(alloc: Global, matches: &ArgMatches<'_>) -> Result<Asked, AskingFault> {
+    match asked_in(alloc, matches) {
+        Ok(asked) => match lacking(&asked) {
+            None => Ok(asked),
+            Some(what) => Err(refusal(alloc, what)),
+        },
+        Err(_) => Err(AskingFault::Memory),
+    }
+}
+
 /// Reads a command line, of which the first word is the program's name.
 ///
 /// # Errors
@@ -184,18 +211,16 @@ fn fault_of(alloc: Global, error: &Error) -> AskingFault {
 /// `Shown` where it asks for help or the version, `Refused` where the words are not those of the program, or lack something, and
 /// `Memory`.
 pub fn asked(alloc: Global, words: &[String]) -> Result<Asked, AskingFault> {
-    let matches = match matches_in(alloc, words) {
-        Ok(matches) => matches,
-        Err(error) => return Err(fault_of(alloc, &error)),
-    };
-    let asked = match matches.subcommand() {
-        Some((name, inner)) => asked_of(alloc, task_of(name), inner)?,
-        None => asked_of(alloc, Task::Read, &matches)?,
-    };
-    match lacking(&asked) {
-        None => Ok(asked),
-        Some(what) => Err(AskingFault::Refused(format!(in alloc;
-            "error: {what}\n\nFor more information, try '--help'.\n"
-        )?)),
+    match matches_in(alloc, words) {
+        Ok(matches) => {
+            let asked = whole(alloc, &matches);
+            drop(matches);
+            asked
+        }
+        Err(error) => {
+            let fault = fault_of(alloc, &error);
+            drop(error);
+            Err(fault)
+        }
     }
 }

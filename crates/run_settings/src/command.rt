@@ -7,7 +7,7 @@ use run_command::Goal;
 use std::alloc::{AllocError, Global};
 
 /// The version of the program.
-pub const VERSION: &str = "0.4.1";
+pub const VERSION: &str = "0.6.0";
 
 /// What is done with each file.
 #[derive(Clone, Copy, PartialEq, Eq)]
@@ -90,12 +90,6 @@ pub enum AskingFault {
     Memory,
 }
 
-impl From<AllocError> for AskingFault {
-    fn from(_: AllocError) -> AskingFault {
-        AskingFault::Memory
-    }
-}
-
 static COMMENTS: [&str; 1] = ["none"];
 
 static WIDTHS: [&str; 1] = ["0"];
@@ -148,115 +142,125 @@ fn chosen<'a>(
     valued(alloc, name, value, help).value_parser(values)
 }
 
+/// Adds an option that leaves out others, where there is memory for that.
+fn with_arg<'a>(
+    command: Command<'a>,
+    arg: Result<Arg<'a>, AllocError>,
+) -> Result<Command<'a>, AllocError> {
+    match arg {
+        Ok(arg) => command.arg(arg),
+        Err(error) => {
+            drop(command);
+            Err(error)
+        }
+    }
+}
+
 /// Adds as what texts are read.
 fn with_goals(alloc: Global, command: Command<'_>) -> Result<Command<'_>, AllocError> {
-    let script = flag(alloc, "script", "Read scripts").conflicts_with("module")?;
-    let module = flag(alloc, "module", "Read modules");
+    let script = flag(alloc, "script", "Read scripts").conflicts_with("module");
+    let command = with_arg(command, script)?;
+    let command = command.arg(flag(alloc, "module", "Read modules"))?;
     let nesting = valued(
         alloc,
         "nesting",
         "N",
         "How deep a program may nest: 1 to 4096 [default: 256]",
-    )
-    .value_parser(value_parser!(u32).range(1..=4096));
-    command.arg(script)?.arg(module)?.arg(nesting)
+    );
+    command.arg(nesting.value_parser(value_parser!(u32).range(1..=4096)))
 }
 
 /// Adds how texts are written in either style.
 fn with_writing(alloc: Global, command: Command<'_>) -> Result<Command<'_>, AllocError> {
-    let ascii = flag(
+    let command = command.arg(flag(
         alloc,
         "ascii-only",
         "Write escapes for characters past ASCII",
-    );
-    let inline = flag(
+    ))?;
+    let command = command.arg(flag(
         alloc,
         "inline-script",
         "Write what may stand in a script element",
-    );
-    let target = chosen(
+    ))?;
+    let command = command.arg(chosen(
         alloc,
         "target",
         "EDITION",
         &TARGETS,
         "The edition to write for [default: esnext]",
-    );
-    let comments = chosen(
+    ))?;
+    command.arg(chosen(
         alloc,
         "comments",
         "WHICH",
         &COMMENTS,
         "none: comments may be lost; they are not kept yet",
-    );
-    command.arg(ascii)?.arg(inline)?.arg(target)?.arg(comments)
+    ))
 }
 
-/// Adds what says which files are meant, and how messages are written.
-fn with_common(alloc: Global, command: Command<'_>) -> Result<Command<'_>, AllocError> {
-    let name = valued(
-        alloc,
-        "stdin-path",
-        "NAME",
-        "The name of standard input, by which its settings are found",
-    );
-    let messages = chosen(
+/// Adds how messages are written.
+fn with_messages(alloc: Global, command: Command<'_>) -> Result<Command<'_>, AllocError> {
+    let format = chosen(
         alloc,
         "message-format",
         "FORMAT",
         &MESSAGES,
         "How messages are written [default: text]",
-    )
-    .alias("format")?;
-    let color = chosen(
+    );
+    let command = with_arg(command, format.alias("format"))?;
+    let command = command.arg(chosen(
         alloc,
         "color",
         "WHEN",
         &COLORS,
         "When messages have colours [default: auto]",
-    );
-    let quiet = flag(alloc, "quiet", "Write no summary").short('q');
-    let config = flag(
+    ))?;
+    command.arg(flag(alloc, "quiet", "Write no summary").short('q'))
+}
+
+/// Adds what says which files are meant, and how messages are written.
+fn with_common(alloc: Global, command: Command<'_>) -> Result<Command<'_>, AllocError> {
+    let command = command.arg(valued(
+        alloc,
+        "stdin-path",
+        "NAME",
+        "The name of standard input, by which its settings are found",
+    ))?;
+    let command = with_messages(alloc, command)?;
+    let command = command.arg(flag(
         alloc,
         "print-config",
         "Write the settings that hold for each file, and nothing else",
+    ))?;
+    let paths = Arg::new(alloc, "PATH").help(
+        "Files, folders, names with * and ?, or - for standard input",
     );
-    let paths = Arg::new(alloc, "PATH")
-        .help("Files, folders, names with * and ?, or - for standard input")
-        .num_args(0..)
-        .action(ArgAction::Append);
-    command
-        .arg(name)?
-        .arg(messages)?
-        .arg(color)?
-        .arg(quiet)?
-        .arg(config)?
-        .arg(paths)
+    command.arg(paths.num_args(0..).action(ArgAction::Append))
 }
 
 /// Adds how formatted texts are laid out.
 fn with_layout(alloc: Global, command: Command<'_>) -> Result<Command<'_>, AllocError> {
-    let indent = chosen(
+    let command = command.arg(chosen(
         alloc,
         "indent",
         "STEP",
         &INDENTS,
         "A step of indentation: so many blanks, or a tab [default: 4]",
-    );
-    let line_end = chosen(
+    ))?;
+    let command = command.arg(chosen(
         alloc,
         "line-end",
         "END",
         &LINE_ENDS,
         "What ends a line [default: lf]",
-    );
-    let width = chosen(
+    ))?;
+    command.arg(chosen(
         alloc,
         "width",
         "COLUMNS",
         &WIDTHS,
         "0: lines are not broken at a width; no other is there yet",
-    );
-    command.arg(indent)?.arg(line_end)?.arg(width)
+    ))
 }
 
 /// One of the ways to say which texts change, which leaves out the others.
@@ -277,48 +281,48 @@ fn with_ways(alloc: Global, command: Command<'_>) -> Result<Command<'_>, AllocEr
         alloc,
         "write",
         "Write each file in its place, where it changes",
-    )
-    .short('w');
+    );
+    let command = with_arg(command, way(write.short('w'), "check", "list", "diff"))?;
     let check = flag(
         alloc,
         "check",
         "Name the files that would change; the status is 1 where there are any",
     );
+    let command = with_arg(command, way(check, "write", "list", "diff"))?;
     let list = flag(alloc, "list", "Name the files that would change").short('l');
+    let command = with_arg(command, way(list, "write", "check", "diff"))?;
     let diff = flag(alloc, "diff", "Write how the files would change");
-    command
-        .arg(way(write, "check", "list", "diff")?)?
-        .arg(way(check, "write", "list", "diff")?)?
-        .arg(way(list, "write", "check", "diff")?)?
-        .arg(way(diff, "write", "check", "list")?)
+    with_arg(command, way(diff, "write", "check", "list"))
+}
+
+/// What leaves out the options that say where each of several files goes.
+fn alone(arg: Arg<'_>) -> Result<Arg<'_>, AllocError> {
+    arg.conflicts_with("out-dir")?.conflicts_with("suffix")
 }
 
 /// Adds where minified texts are written.
 fn with_places(alloc: Global, command: Command<'_>) -> Result<Command<'_>, AllocError> {
-    let file = valued(alloc, "out-file", "FILE", "Write the one file there")
-        .short('o')
-        .conflicts_with("out-dir")?
-        .conflicts_with("suffix")?;
-    let folder = valued(
+    let file = valued(alloc, "out-file", "FILE", "Write the one file there").short('o');
+    let command = with_arg(command, alone(file))?;
+    let command = command.arg(valued(
         alloc,
         "out-dir",
         "FOLDER",
         "Write each file there, under its own path",
-    );
-    let suffix = valued(
+    ))?;
+    let command = command.arg(valued(
         alloc,
         "suffix",
         "ENDING",
         "Write each file with this ending in place of its own, as .min.js",
-    );
-    let map = chosen(
+    ))?;
+    command.arg(chosen(
         alloc,
         "source-map",
         "WHERE",
         &MAPS,
         "Write a source map: to a file beside each, or into it",
-    );
-    command.arg(file)?.arg(folder)?.arg(suffix)?.arg(map)
+    ))
 }
 
 /// The command that formats.
@@ -347,14 +351,31 @@ fn read<'a>(alloc: Global) -> Result<Command<'a>, AllocError> {
     with_common(alloc, with_goals(alloc, command)?)
 }
 
-/// What the program takes.
-pub(crate) fn command<'a>(alloc: Global) -> Result<Command<'a>, AllocError> {
-    Command::new(alloc, "delvaram")
-        .bin_name("delvaram")?
+/// A command with another below it.
+fn with_inner<'a>(
+    command: Command<'a>,
+    inner: Result<Command<'a>, AllocError>,
+) -> Result<Command<'a>, AllocError> {
+    match inner {
+        Ok(inner) => command.subcommand(inner),
+        Err(error) => {
+            drop(command);
+            Err(error)
+        }
+    }
+}
+
+/// What the program is, but for its commands.
+fn program<'a>(alloc: Global) -> Result<Command<'a>, AllocError> {
+    let command = Command::new(alloc, "delvaram")
         .version(VERSION)
         .about("Formats, minifies and reads ECMAScript programs")
-        .subcommand_required(true)
-        .subcommand(format(alloc)?)?
-        .subcommand(minify(alloc)?)?
-        .subcommand(read(alloc)?)
+        .subcommand_required(true);
+    command.bin_name("delvaram")
+}
+
+/// What the program takes.
+pub(crate) fn command<'a>(alloc: Global) -> Result<Command<'a>, AllocError> {
+    let command = with_inner(program(alloc)?, format(alloc))?;
+    with_inner(with_inner(command, minify(alloc))?, read(alloc))
 }

@@ -2,7 +2,7 @@
 //! for each N, and without it.
 
 use crate::lexing::made::ok;
-use base_token::{BytePos, Context, DUMMY_SP, Error, EsVersion, Syntax, SyntaxError};
+use base_token::{BytePos, Context, DUMMY_SP, Error, EsVersion, Syntax, SyntaxError, TokenAndSpan};
 use ecma_lexer::{Lexer, TokenContext, TokenContexts, Tokens, canonical_text};
 use lex_other_sources::Capturing;
 use std::alloc::Global;
@@ -44,27 +44,39 @@ fn is_full(lexer: &mut Lexer<'_>) -> bool {
     }
 }
 
-/// After want of memory each step answers it again, whatever is called between.
-#[test]
-fn want_of_memory_stays(rt: HostRuntime) -> Result<(), Fail> {
-    let mut lexer = lexer(rt.alloc(), WANTING, true)?;
+/// A lexer that wants memory, after whatever is called on it.
+fn stays_full(rt: &impl Abort, lexer: &mut Lexer<'_>) {
+    assert!(rt; is_full(lexer));
+    lexer.set_ctx(Context::default());
+    lexer.set_next_regexp(None);
+    drop(lexer.take_comments());
+    drop(lexer.take_errors());
+    assert!(rt; is_full(lexer));
+}
+
+/// Reads a text up to its end, or to want of memory, which stays.
+fn read_on(rt: &impl Abort, lexer: &mut Lexer<'_>) -> Result<(), Fail> {
     for _ in 0..200 {
         match lexer.next() {
             Ok(Some(_)) => {}
             Ok(None) => return Ok(()),
             Err(error) => {
                 assert_eq!(rt; error.kind, SyntaxError::Memory);
-                assert!(rt; is_full(&mut lexer));
-                lexer.set_ctx(Context::default());
-                lexer.set_next_regexp(None);
-                drop(lexer.take_comments());
-                drop(lexer.take_errors());
-                assert!(rt; is_full(&mut lexer));
+                stays_full(rt, lexer);
                 return Ok(());
             }
         }
     }
     Err(Fail::from("the text has no end"))
+}
+
+/// After want of memory each step answers it again, whatever is called between.
+#[test]
+fn want_of_memory_stays(rt: HostRuntime) -> Result<(), Fail> {
+    let mut lexer = lexer(rt.alloc(), WANTING, true)?;
+    let ended = read_on(&rt, &mut lexer);
+    drop(lexer);
+    ended
 }
 
 /// Adds a fault as often as asked, and counts how often that succeeds.
@@ -140,18 +152,28 @@ fn takes_no_memory(rt: HostRuntime) -> Result<(), Fail> {
     Ok(())
 }
 
-/// A canonical text is the right one, or memory is wanted.
-#[test]
-fn canonical_text_or_want_of_memory(rt: HostRuntime) -> Result<(), Fail> {
-    let mut lexer = lexer(rt.alloc(), "a/**/+b", false)?;
-    let mut tokens = Vec::new(rt.alloc());
+/// Adds the next three tokens, and says whether there was memory for them.
+fn push_three<'a>(lexer: &mut Lexer<'a>, tokens: &mut Vec<TokenAndSpan<'a>>) -> Result<bool, Fail> {
     for _ in 0..3 {
         let Ok(Some(token)) = lexer.next() else {
             return Err(Fail::from("no token"));
         };
         if tokens.push(token).is_err() {
-            return Ok(());
+            return Ok(false);
         }
+    }
+    Ok(true)
+}
+
+/// A canonical text is the right one, or memory is wanted.
+#[test]
+fn canonical_text_or_want_of_memory(rt: HostRuntime) -> Result<(), Fail> {
+    let mut lexer = lexer(rt.alloc(), "a/**/+b", false)?;
+    let mut tokens = Vec::new(rt.alloc());
+    let pushed = push_three(&mut lexer, &mut tokens);
+    drop(lexer);
+    if !pushed? {
+        return Ok(());
     }
     match canonical_text(rt.alloc(), "a/**/+b", tokens.as_slice()) {
         Ok(text) => assert_eq!(rt; text.as_str(), "a + b"),
